@@ -1,0 +1,1 @@
+// The one call for the C host: a card of two parcels in, a report out.

@@ -1,0 +1,6 @@
+pub mod Lines
+pub mod Grid
+pub mod Cells
+pub mod Holding
+pub mod Matrix
+pub mod Directions

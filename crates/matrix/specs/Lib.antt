@@ -1,0 +1,4 @@
+pub mod Grid
+pub mod Holding
+pub mod Matrix
+pub mod Directions

@@ -1,0 +1,5 @@
+pub mod Common
+pub mod Tests
+pub mod Crossing
+pub mod Folding
+pub mod MeetTest

@@ -1,0 +1,4 @@
+pub mod Refusals
+pub mod Region
+pub mod Rules
+pub mod Check

@@ -1,0 +1,130 @@
+-- Document 01, "Outlines to try, with what they give": outlines 1 to 12, each seen both ways, with all that the document says of them.
+--   Outline             the two lists of a region
+--   Row                 two regions, the pair answer for them and the word "around"
+--   given, refused      an answer by its numbers: relations both ways, rows, columns, nine cells, directions, pieces; a refusal by number and region
+--   rows                the table. That the definitions give it: proofs/Table, `table`
+use mathlib.Core.Bool.{Bool, true, false}
+use mathlib.Core.List.{List, [], _∷_}
+use Prim.Native.Nat.{ℕ}
+use lib.IntN.{ℤ, pos, negsuc}
+use Rattle.pair.specs.declared.Answer.{Answer}
+use Rattle.pair.specs.Answer.{refusedWith}
+
+pub record Outline : Type 0 where
+  pub xs : List ℤ
+  pub ends : List ℕ
+
+pub record Row : Type 0 where
+  pub first : Outline
+  pub second : Outline
+  pub answer : Answer
+  pub around : Bool
+
+abbrev pub given : (first second rows columns : ℕ) → List ℕ → (directions m n : ℕ) → Answer
+given first second rows columns cells directions m n =
+    record {
+      number = 0;
+      region = 0;
+      ring = 0;
+      first = first;
+      second = second;
+      rows = rows;
+      columns = columns;
+      cells = cells;
+      directions = directions;
+      «first_pieces» = m;
+      «second_pieces» = n;
+    }
+
+abbrev pub refused : (n g : ℕ) → Answer
+refused n g = refusedWith n g 0
+
+-- A
+abbrev pub square : Outline
+square = record { xs = pos 0 ∷ pos 0 ∷ pos 0 ∷ pos 10 ∷ pos 10 ∷ pos 10 ∷ pos 10 ∷ pos 0 ∷ []; ends = 4 ∷ [] }
+
+-- C of outline 1
+abbrev pub overlapping : Outline
+overlapping = record { xs = pos 5 ∷ pos 5 ∷ pos 5 ∷ pos 25 ∷ pos 25 ∷ pos 25 ∷ pos 25 ∷ pos 5 ∷ []; ends = 4 ∷ [] }
+
+-- outline 2
+abbrev pub beside : Outline
+beside = record { xs = pos 10 ∷ pos 0 ∷ pos 10 ∷ pos 10 ∷ pos 20 ∷ pos 10 ∷ pos 20 ∷ pos 0 ∷ []; ends = 4 ∷ [] }
+
+-- outline 3
+abbrev pub corner : Outline
+corner = record { xs = pos 10 ∷ pos 10 ∷ pos 10 ∷ pos 20 ∷ pos 20 ∷ pos 20 ∷ pos 20 ∷ pos 10 ∷ []; ends = 4 ∷ [] }
+
+-- outline 4
+abbrev pub apart : Outline
+apart = record { xs = pos 12 ∷ pos 12 ∷ pos 12 ∷ pos 22 ∷ pos 22 ∷ pos 22 ∷ pos 22 ∷ pos 12 ∷ []; ends = 4 ∷ [] }
+
+-- outline 5, the triangle
+abbrev pub triangle : Outline
+triangle = record { xs = pos 0 ∷ pos 0 ∷ pos 0 ∷ pos 10 ∷ pos 10 ∷ pos 0 ∷ []; ends = 3 ∷ [] }
+
+-- outline 5, the square
+abbrev pub crossed : Outline
+crossed = record { xs = pos 5 ∷ pos 5 ∷ pos 5 ∷ pos 15 ∷ pos 15 ∷ pos 15 ∷ pos 15 ∷ pos 5 ∷ []; ends = 4 ∷ [] }
+
+-- outline 6
+abbrev pub large : Outline
+large = record { xs = negsuc 9 ∷ negsuc 9 ∷ negsuc 9 ∷ pos 40 ∷ pos 40 ∷ pos 40 ∷ pos 40 ∷ negsuc 9 ∷ []; ends = 4 ∷ [] }
+
+-- outline 7: four rectangles round A
+abbrev pub ring : Outline
+ring = record { xs = negsuc 9 ∷ negsuc 9 ∷ negsuc 9 ∷ pos 40 ∷ pos 0 ∷ pos 40 ∷ pos 0 ∷ negsuc 9 ∷ pos 0 ∷ pos 10 ∷ pos 0 ∷ pos 40 ∷ pos 10 ∷ pos 40 ∷ pos 10 ∷ pos 10 ∷ pos 0 ∷ negsuc 9 ∷ pos 0 ∷ pos 0 ∷ pos 10 ∷ pos 0 ∷ pos 10 ∷ negsuc 9 ∷ pos 10 ∷ negsuc 9 ∷ pos 10 ∷ pos 40 ∷ pos 40 ∷ pos 40 ∷ pos 40 ∷ negsuc 9 ∷ []; ends = 4 ∷ 8 ∷ 12 ∷ 16 ∷ [] }
+
+-- outline 8
+abbrev pub bow-tie : Outline
+bow-tie = record { xs = pos 0 ∷ pos 0 ∷ pos 10 ∷ pos 10 ∷ pos 10 ∷ pos 0 ∷ pos 0 ∷ pos 10 ∷ []; ends = 4 ∷ [] }
+
+-- outline 9
+abbrev pub flat : Outline
+flat = record { xs = pos 0 ∷ pos 0 ∷ pos 5 ∷ pos 5 ∷ pos 10 ∷ pos 10 ∷ []; ends = 3 ∷ [] }
+
+-- outline 10: A reversed
+abbrev pub reversed : Outline
+reversed = record { xs = pos 10 ∷ pos 0 ∷ pos 10 ∷ pos 10 ∷ pos 0 ∷ pos 10 ∷ pos 0 ∷ pos 0 ∷ []; ends = 4 ∷ [] }
+
+-- outline 11
+abbrev pub two-vertices : Outline
+two-vertices = record { xs = pos 0 ∷ pos 0 ∷ pos 0 ∷ pos 10 ∷ []; ends = 2 ∷ [] }
+
+-- outline 12: x 1,000,001
+abbrev pub too-far : Outline
+too-far = record { xs = pos 0 ∷ pos 0 ∷ pos 0 ∷ pos 10 ∷ pos 1000001 ∷ pos 10 ∷ pos 1000001 ∷ pos 0 ∷ []; ends = 4 ∷ [] }
+
+-- outline 12: x 1,000,000
+abbrev pub at-the-end : Outline
+at-the-end = record { xs = pos 0 ∷ pos 0 ∷ pos 0 ∷ pos 10 ∷ pos 1000000 ∷ pos 10 ∷ pos 1000000 ∷ pos 0 ∷ []; ends = 4 ∷ [] }
+
+abbrev pub rows : List Row
+rows =
+    record { first = square; second = overlapping; answer = given 216 54 3 3 (0 ∷ 2 ∷ 2 ∷ 1 ∷ 3 ∷ 2 ∷ 1 ∷ 1 ∷ 0 ∷ []) 216 8 8; around = false }
+    ∷ record { first = overlapping; second = square; answer = given 54 216 3 3 (0 ∷ 1 ∷ 1 ∷ 2 ∷ 3 ∷ 1 ∷ 2 ∷ 2 ∷ 0 ∷ []) 54 8 8; around = false }
+    ∷ record { first = square; second = beside; answer = given 8 32 1 2 (1 ∷ 2 ∷ 0 ∷ 0 ∷ 0 ∷ 0 ∷ 0 ∷ 0 ∷ 0 ∷ []) 8 4 4; around = false }
+    ∷ record { first = beside; second = square; answer = given 32 8 1 2 (2 ∷ 1 ∷ 0 ∷ 0 ∷ 0 ∷ 0 ∷ 0 ∷ 0 ∷ 0 ∷ []) 32 4 4; around = false }
+    ∷ record { first = square; second = corner; answer = given 64 4 2 2 (0 ∷ 2 ∷ 0 ∷ 1 ∷ 0 ∷ 0 ∷ 0 ∷ 0 ∷ 0 ∷ []) 64 4 4; around = false }
+    ∷ record { first = corner; second = square; answer = given 4 64 2 2 (0 ∷ 1 ∷ 0 ∷ 2 ∷ 0 ∷ 0 ∷ 0 ∷ 0 ∷ 0 ∷ []) 4 4 4; around = false }
+    ∷ record { first = square; second = apart; answer = given 64 4 3 3 (0 ∷ 0 ∷ 2 ∷ 0 ∷ 0 ∷ 0 ∷ 1 ∷ 0 ∷ 0 ∷ []) 64 4 4; around = false }
+    ∷ record { first = apart; second = square; answer = given 4 64 3 3 (0 ∷ 0 ∷ 1 ∷ 0 ∷ 0 ∷ 0 ∷ 2 ∷ 0 ∷ 0 ∷ []) 4 4 4; around = false }
+    ∷ record { first = triangle; second = crossed; answer = given 200 54 3 3 (0 ∷ 2 ∷ 2 ∷ 1 ∷ 2 ∷ 2 ∷ 1 ∷ 1 ∷ 0 ∷ []) 200 6 8; around = false }
+    ∷ record { first = crossed; second = triangle; answer = given 54 200 3 3 (0 ∷ 1 ∷ 1 ∷ 2 ∷ 1 ∷ 1 ∷ 2 ∷ 2 ∷ 0 ∷ []) 38 8 6; around = false }
+    ∷ record { first = large; second = square; answer = given 511 16 3 3 (1 ∷ 1 ∷ 1 ∷ 1 ∷ 3 ∷ 1 ∷ 1 ∷ 1 ∷ 1 ∷ []) 511 12 4; around = false }
+    ∷ record { first = square; second = large; answer = given 16 511 3 3 (2 ∷ 2 ∷ 2 ∷ 2 ∷ 3 ∷ 2 ∷ 2 ∷ 2 ∷ 2 ∷ []) 511 4 12; around = false }
+    ∷ record { first = ring; second = square; answer = given 495 16 3 3 (1 ∷ 1 ∷ 1 ∷ 1 ∷ 2 ∷ 1 ∷ 1 ∷ 1 ∷ 1 ∷ []) 495 24 4; around = true }
+    ∷ record { first = square; second = ring; answer = given 16 495 3 3 (2 ∷ 2 ∷ 2 ∷ 2 ∷ 1 ∷ 2 ∷ 2 ∷ 2 ∷ 2 ∷ []) 495 4 24; around = true }
+    ∷ record { first = bow-tie; second = square; answer = refused 6 1; around = false }
+    ∷ record { first = square; second = bow-tie; answer = refused 6 2; around = false }
+    ∷ record { first = flat; second = square; answer = refused 6 1; around = false }
+    ∷ record { first = square; second = flat; answer = refused 6 2; around = false }
+    ∷ record { first = reversed; second = square; answer = refused 7 1; around = false }
+    ∷ record { first = square; second = reversed; answer = refused 7 2; around = false }
+    ∷ record { first = two-vertices; second = square; answer = refused 2 1; around = false }
+    ∷ record { first = square; second = two-vertices; answer = refused 2 2; around = false }
+    ∷ record { first = too-far; second = square; answer = refused 4 1; around = false }
+    ∷ record { first = square; second = too-far; answer = refused 4 2; around = false }
+    ∷ record { first = at-the-end; second = square; answer = given 48 16 1 2 (3 ∷ 1 ∷ 0 ∷ 0 ∷ 0 ∷ 0 ∷ 0 ∷ 0 ∷ 0 ∷ []) 48 6 4; around = false }
+    ∷ record { first = square; second = at-the-end; answer = given 16 48 1 2 (3 ∷ 2 ∷ 0 ∷ 0 ∷ 0 ∷ 0 ∷ 0 ∷ 0 ∷ 0 ∷ []) 24 4 6; around = false }
+    ∷ []

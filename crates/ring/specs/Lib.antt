@@ -1,0 +1,7 @@
+pub mod Edges
+pub mod RingBox
+pub mod Repeated
+pub mod Tangled
+pub mod Turning
+pub mod Centre
+pub mod RingTiles

@@ -1,0 +1,4 @@
+pub mod Layout
+pub mod Slots
+pub mod Changes
+pub mod Readings
