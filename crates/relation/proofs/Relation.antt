@@ -20,7 +20,7 @@ use Rattle.plane.specs.TileSet.{setOf, bit}
 use Rattle.plane.specs.declared.Box.{Box}
 use Rattle.plane.proofs.Logic.{iff-join}
 use Rattle.plane.proofs.Folds.{any-means, sum-same}
-use Rattle.plane.proofs.TileSet.{set-means}
+use Rattle.plane.proofs.TileSet.{set-lt, set-means}
 use Rattle.ring.specs.Edges.{corner, RingInRange}
 use Rattle.ring.specs.RingBox.{BoxIs, stretchBox}
 use Rattle.ring.specs.RingTiles.{RingHas, ringHas, RingPieces, ringPieces}
@@ -98,3 +98,26 @@ module _ (xs : List ℤ) (ends : List ℕ) (kept : KeepsFirstFour xs ends) where
       },
       λ p. sum-same _ (p .share) (length ends) (λ r l. ring-pieces-mean L range xs (startOf ends r) (sizeOf ends r) (ring-range r l) (p .share r) .1 (p .each r l)) ∙ sym (p .whole),
     )
+
+  -- the pieces of the first n rings
+  pieces-to : (b : Box) (n : ℕ) → n ≤ length ends
+      → (startOf ends n ≤ sumTo (λ r. ringPieces b xs (startOf ends r) (sizeOf ends r)) n) × (sumTo (λ r. ringPieces b xs (startOf ends r) (sizeOf ends r)) n ≤ startOf ends n * 5)
+  unfolding sumTo
+  pieces-to b zero h = (omega arith, omega arith)
+  pieces-to b (suc n) h =
+      let ih = pieces-to b n (omega arith) in
+      let p = ring-pieces-le b xs (startOf ends n) (sizeOf ends n) in
+      let g = grown n h in
+      (omega (arith, ih .0, p .0, g), omega (arith, ih .1, p .1, g))
+
+  pub region-pieces-le : (b : Box) → (lastEnd ends ≤ regionPieces b xs ends) × (regionPieces b xs ends ≤ lastEnd ends * 5)
+  unfolding regionPieces
+  region-pieces-le b = pieces-to b (length ends) (omega arith)
+
+pub relation-lt : (b : Box) (xs : List ℤ) (ends : List ℕ) → relationOf b xs ends < 512
+unfolding relationOf
+relation-lt b xs ends = set-lt (regionHas b xs ends) 9
+
+pub region-upright : (xs : List ℤ) (ends : List ℕ) → Upright (regionBox xs ends)
+unfolding regionBox
+region-upright xs ends = box-upright xs 0 (lastEnd ends)

@@ -6,3 +6,4 @@ pub mod Ray
 pub mod Centre
 pub mod Tangled
 pub mod RingTiles
+pub mod Positive
