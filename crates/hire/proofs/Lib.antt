@@ -1,0 +1,4 @@
+pub mod Sound
+pub mod Layouts
+pub mod Runs
+pub mod Cells

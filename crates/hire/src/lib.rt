@@ -1,0 +1,1 @@
+// A whole hire: what any run of calls leaves on the sheet. There is no code here.
