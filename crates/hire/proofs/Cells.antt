@@ -27,7 +27,6 @@ use Rattle.matrix.specs.Directions.{directionsOf, opposite}
 use Rattle.matrix.proofs.Directions.{pair-opposite}
 use Rattle.sheet.specs.Layout.{Sheet, Parcel, nothing, outline, cellOf, layout, selfCell, slots, relations-length}
 use Rattle.hire.specs.Runs.{Call, afterRun, Stands, standing}
-use Rattle.hire.proofs.Sound.{Sound}
 use Rattle.hire.proofs.Runs.{standing-sound, run-layout, standing-means}
 
 abbrev pub cellIn : Sheet → (p q : ℕ) → ℕ

@@ -27,7 +27,8 @@ use Rattle.sheet.specs.Layout.{Sheet, Parcel, nothing, outline, numberAt, recor
 use Rattle.sheet.specs.Slots.{countOf, endsOf, numbersOf, parcelAt, damagedAt, damaged, wrongLists}
 use Rattle.sheet.specs.Changes.{standing, withParcel}
 use Rattle.hire.specs.Runs.{instead}
-use Rattle.hire.proofs.Sound.{Sound, Fits, accepted-fits}
+use Rattle.outline.proofs.Fits.{Fits, accepted-fits}
+use Rattle.card.proofs.Sound.{Sound}
 
 -- a table of which some places are written anew
 rewritten {ℓ} : {A : Type ℓ} (t : ℕ → Bool) (new old both : ℕ → A) (d : A) (n : ℕ) → ((k : ℕ) → k < n → pick (t k) (new k) (old k) ≡ both k)

@@ -1,4 +1,3 @@
-pub mod Sound
 pub mod Layouts
 pub mod Runs
 pub mod Cells

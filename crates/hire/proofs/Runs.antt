@@ -27,7 +27,8 @@ use Rattle.card.specs.Reading.{parcelIn}
 use Rattle.card.specs.Load as Load
 use Rattle.card.specs.Load.{cardNumber, loadNumber}
 use Rattle.hire.specs.Runs.{Call, put, remove, clear, load, afterCall, afterRun, AcceptedPut, Spares, put-elsewhere, put-refused, removed-elsewhere, load-refused, Stands, just-put, just-loaded, still, instead, standing, putParcel, fresh}
-use Rattle.hire.proofs.Sound.{Sound, accepted-fits, sound-card}
+use Rattle.outline.proofs.Fits.{accepted-fits}
+use Rattle.card.proofs.Sound.{Sound, sound-card}
 use Rattle.hire.proofs.Layouts.{layout-lists, layout-whole, layout-with, layout-same, count-is}
 
 -- number 0 is acceptance

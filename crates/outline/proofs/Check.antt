@@ -26,7 +26,7 @@ use Rattle.outline.specs.Check.{refusal, firstBreaking, shortAt, outside
 use Rattle.outline.proofs.Region.{Grown, size-least}
 use Rattle.outline.proofs.Tests.{short-means, outside-at-means, repeated-at-means, tangled-at-means, turned-at-means, ring-in-range}
 
-abbrev is-accepted : Checked → Bool
+abbrev pub is-accepted : Checked → Bool
 is-accepted Accepted = true
 is-accepted (Refused n r) = false
 

@@ -1,3 +1,4 @@
 pub mod Region
 pub mod Tests
 pub mod Check
+pub mod Fits
