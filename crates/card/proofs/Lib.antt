@@ -1,2 +1,5 @@
 pub mod Good
 pub mod Sound
+pub mod Held
+pub mod WrittenCard
+pub mod RoundTrip
