@@ -44,7 +44,7 @@ first-zero f n k h l = go (ltb (firstOf t n) n) refl h
         clash (t (firstOf t n)) q (ap not (eq-eqb (f (firstOf t n)) 0 z))
     go false e z = eqb-true (f k) 0 (not-false (eqb (f k) 0) (first-below t n k (omega (arith, ltb-false (firstOf t n) n e))))
 
-or-false : (x y : Bool) → x || y ≡ false → (x ≡ false) × (y ≡ false)
+pub or-false : (x y : Bool) → x || y ≡ false → (x ≡ false) × (y ≡ false)
 or-false true y h = never (sym h)
 or-false false y h = (refl, h)
 

@@ -105,3 +105,24 @@ i32-held b at z l h =
     let y : u16At b (at + 2) ≡ unsigned z / 65536 = u16-held b (at + 2) (unsigned z / 65536) (omega arith) (held-right b at (u16Bytes (unsigned z % 65536)) (u16Bytes (unsigned z / 65536)) h) in
     let e : u32At b at ≡ unsigned z = rw (x, y) (omega arith) in
     ap signed e ∙ signed-unsigned z l
+
+unsigned-signed : (v : ℕ) → v < 4294967296 → unsigned (signed v) ≡ v
+unsigned-signed v h =
+    elim (decLt v 2147483648) [
+      | yes l ↦ simp (lt-ltb v 2147483648 l)
+      | no l ↦ (let e : 4294967295 - (4294967295 - v) ≡ v = omega arith in simp (le-ltb v 2147483648 (omega arith), e))
+    ]
+
+pub held-i32 : (b : List ℕ) (at : ℕ) (z : ℤ) → ((j : ℕ) → getD b j 0 < 256) → i32At b at ≡ z → Held b at (i32Bytes z)
+held-i32 b at z low e =
+    let v : u32At b at < 4294967296 = omega (arith, low at, low (at + 1), low (at + 2), low (at + 2 + 1)) in
+    let u : unsigned z ≡ u32At b at = ap unsigned (sym e) ∙ unsigned-signed (u32At b at) v in
+    rw u
+    (held-append b at (u16Bytes (u32At b at % 65536)) (u16Bytes (u32At b at / 65536))
+    (held-u16 b at (u32At b at % 65536) (low at) (low (at + 1)) (first (getD b at 0) (getD b (at + 1) 0) (u16At b (at + 2)) (low at) (low (at + 1))))
+    (held-u16 b (at + 2) (u32At b at / 65536) (low (at + 2)) (low (at + 2 + 1)) (second (getD b at 0) (getD b (at + 1) 0) (u16At b (at + 2)) (low at) (low (at + 1)))))
+  where
+    first : (x y w : ℕ) → x < 256 → y < 256 → x + y * 256 ≡ (x + y * 256 + w * 65536) % 65536
+    first x y w p q = omega arith
+    second : (x y w : ℕ) → x < 256 → y < 256 → w ≡ (x + y * 256 + w * 65536) / 65536
+    second x y w p q = omega arith

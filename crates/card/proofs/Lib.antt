@@ -3,3 +3,4 @@ pub mod Sound
 pub mod Held
 pub mod WrittenCard
 pub mod RoundTrip
+pub mod LoadedCard

@@ -1,0 +1,56 @@
+//! Invented requests and cards for the desk and the listing program, good and
+//! bad, which depend on a seed alone. They are what the proved program and this
+//! one are compared on (document 01: "everything else is run and compared with
+//! an independent program").
+
+pub mod cards;
+pub mod faults;
+pub mod pairs;
+pub mod random;
+pub mod regions;
+pub mod rings;
+mod sheets;
+mod text;
+
+use std::fs;
+use std::io::{self, Write};
+use std::path::Path;
+
+use random::Random;
+
+/// What a batch is about.
+#[derive(Clone, Copy, Debug, PartialEq, Eq)]
+pub enum Kind {
+    /// Requests for the pair call.
+    Pairs,
+    /// Runs of calls on a sheet.
+    Sheets,
+    /// Cards, each with requests about it.
+    Cards,
+}
+
+/// Writes a batch of so many items of a kind, one request a line.
+pub fn batch(kind: Kind, items: u64, seed: u64, output: &mut impl Write) -> io::Result<()> {
+    for item in 0..items {
+        let mut random = Random::for_item(seed, item);
+        let lines = match kind {
+            Kind::Pairs => vec![pairs::request(&mut random)],
+            Kind::Sheets => sheets::run(&mut random),
+            Kind::Cards => cards::requests(&mut random),
+        };
+        for line in lines {
+            writeln!(output, "{line}")?;
+        }
+    }
+    output.flush()
+}
+
+/// Writes the cards of a batch as files 0001.card and so on.
+pub fn card_files(items: u64, seed: u64, directory: &Path) -> io::Result<()> {
+    fs::create_dir_all(directory)?;
+    for item in 0..items {
+        let card = cards::card(&mut Random::for_item(seed, item));
+        fs::write(directory.join(format!("{:04}.card", item + 1)), card)?;
+    }
+    Ok(())
+}

@@ -1,0 +1,254 @@
+//! The desk: every request, any bytes, and the batches made for it.
+
+use std::collections::BTreeSet;
+
+use independent::make::random::Random;
+use independent::make::{batch, Kind};
+
+use crate::common::ask;
+
+fn made(kind: Kind, items: u64, seed: u64) -> Vec<u8> {
+    let mut text = Vec::new();
+    batch(kind, items, seed, &mut text).expect("memory takes any batch");
+    text
+}
+
+#[test]
+fn the_example_of_the_request_language() {
+    let request = b"pair 1 4 8 0 0 0 10 10 10 10 0 1 4 8 5 5 5 25 25 25 25 5";
+    let answer = "0 0 0 216 54 3 3 0 2 2 1 3 2 1 1 0 216 8 8 0";
+    assert_eq!(ask(request), [answer]);
+}
+
+#[test]
+fn the_numbers_of_a_pair_in_their_order() {
+    let conversation = [
+        // Outline 5, either way: the piece counts and the relations differ.
+        (
+            "pair 1 3 6 0 0 0 10 10 0 1 4 8 5 5 5 15 15 15 15 5",
+            "0 0 0 200 54 3 3 0 2 2 1 2 2 1 1 0 200 6 8 0",
+        ),
+        (
+            "pair 1 4 8 5 5 5 15 15 15 15 5 1 3 6 0 0 0 10 10 0",
+            "0 0 0 54 200 3 3 0 1 1 2 1 1 2 2 0 38 8 6 0",
+        ),
+        // Outline 2: rows and columns differ.
+        (
+            "pair 1 4 8 0 0 0 10 10 10 10 0 1 4 8 10 0 10 10 20 10 20 0",
+            "0 0 0 8 32 1 2 1 2 0 0 0 0 0 0 0 8 4 4 0",
+        ),
+        // Outline 7: around.
+        (
+            "pair 4 4 8 12 16 32 -10 -10 -10 40 0 40 0 -10 0 10 0 40 10 40 10 10 \
+             0 -10 0 0 10 0 10 -10 10 -10 10 40 40 40 40 -10 1 4 8 0 0 0 10 10 10 10 0",
+            "0 0 0 495 16 3 3 1 1 1 1 2 1 1 1 1 495 24 4 1",
+        ),
+        // A reversed as ring 1 of region 2; then no ring at all.
+        (
+            "pair 1 3 6 0 0 0 1 1 0 2 4 8 16 0 0 0 10 10 10 10 0 10 0 10 10 0 10 0 0",
+            "7 2 1 0 0 0 0 0 0 0 0 0 0 0 0 0 0 0 0 0",
+        ),
+        ("pair 0 0 0 0", "1 1 0 0 0 0 0 0 0 0 0 0 0 0 0 0 0 0 0 0"),
+    ];
+    for (request, answer) in conversation {
+        assert_eq!(ask(request.as_bytes()), [answer]);
+    }
+}
+
+#[test]
+fn every_request_has_its_line() {
+    let conversation = [
+        ("sheet", ""),
+        ("put 0 1 4 8 0 0 0 10 10 10 10 0", "0"),
+        ("put 3 1 4 8 5 5 5 25 25 25 25 5", "0"),
+        ("put 3 1 2 4 0 0 1 1", "2"),
+        ("cell 0 3", "0 216"),
+        ("cell 3 1", "9 0"),
+        ("cell 3 32", "8 0"),
+        ("row 1", "0"),
+        ("row 0", "32 16 0 0 216 0 0 0 0 0 0 0 0 0 0 0 0 0 0 0 0 0 0 0 0 0 0 0 0 0 0 0 0"),
+        ("tiles 216", "4"),
+        ("tiles 65535", "9"),
+        ("remove 0", "0"),
+        ("remove 0", "9"),
+        ("sheet", "0:384=5 0:385=5 0:386=5 0:387=25 0:388=25 0:389=25 0:390=25 0:391=5 1:27=1 1:28=4 2:99=16"),
+        ("write 13", "10 0 a5a5a5a5a5a5a5a5a5a5a5a5a5"),
+        ("write 0", "10 0 -"),
+        ("clear", "0"),
+        ("write 13", "0 12 0000000000000c000c000c00a5"),
+        ("load 0000000000000C000c000c00", "0"),
+        ("load -", "14"),
+        ("host 38 -", "14 a5a5a5a5a5a5a5a5a5a5a5a5a5a5a5a5a5a5a5a5a5a5a5a5a5a5a5a5a5a5a5a5a5a5a5a5a5a5"),
+        ("host 3 0000000000000c000c000c00", "10 a5a5a5"),
+        ("host 0 -", "10 -"),
+        ("poke 0 4096 -7", "ok"),
+        ("poke 1 288 8", "ok"),
+        ("poke 2 1024 9", "ok"),
+        ("sheet", "0:4096=-7 1:288=8 2:1024=9"),
+        ("lend 4097 288 1024", "ok"),
+        ("clear", "11"),
+        ("cell 0 0", "9 0"),
+        ("lend 4096 289 1024", "ok"),
+        ("cell 0 0", "11 0"),
+        ("row 0", "0"),
+        ("lend 4096 288 1025", "ok"),
+        ("cell 0 0", "11 0"),
+        ("load -", "11"),
+        ("write 12", "11 0 a5a5a5a5a5a5a5a5a5a5a5a5"),
+        ("lend 4096 288 1024", "ok"),
+        ("clear", "0"),
+        ("sheet", "0:4096=-7 1:288=8 2:1024=9"),
+        ("poke 1 0 9", "ok"),
+        ("put 5 0 0", "12"),
+        ("lend 9 9", "?"),
+    ];
+    let requests: Vec<&str> = conversation.iter().map(|(request, _)| *request).collect();
+    let answers = ask(requests.join("\n").as_bytes());
+    assert_eq!(answers.len(), conversation.len());
+    for ((request, expected), answer) in conversation.iter().zip(&answers) {
+        assert_eq!(answer, expected, "{request}");
+    }
+}
+
+#[test]
+fn a_line_that_is_no_request_changes_nothing() {
+    let answers = ask(b"poke 0 0 5\npoke 0 0 6 7\nlend 1 1 1 1\nclear 1\nput 0\nsheet\nremove 0\n");
+    assert_eq!(answers, ["ok", "?", "?", "?", "?", "0:0=5", "9"]);
+}
+
+/// How many lines want an answer.
+fn lines_to_answer(input: &[u8]) -> usize {
+    let lines = input.split(|&byte| byte == b'\n');
+    let is_blank = |line: &&[u8]| line.iter().all(|&byte| byte == b' ');
+    lines
+        .filter(|line| line.len() > 65_535 || !is_blank(line))
+        .count()
+}
+
+#[test]
+fn any_bytes_get_one_answer_a_line() {
+    let mut random = Random::new(51);
+    for _ in 0..200 {
+        let length = random.below(3_000);
+        let alphabet = random.pick(&[
+            b"\n 0123456789-+abcdefxputclearsheet\t\r".as_slice(),
+            b"\n \x00\xff",
+        ]);
+        let any = random.percent(50);
+        let byte = |_| {
+            if any {
+                random.any_byte()
+            } else {
+                random.pick(alphabet)
+            }
+        };
+        let input: Vec<u8> = (0..length).map(byte).collect();
+        assert_eq!(ask(&input).len(), lines_to_answer(&input));
+    }
+}
+
+#[test]
+fn requests_with_bytes_changed_get_one_answer_a_line() {
+    let mut random = Random::new(52);
+    for kind in [Kind::Pairs, Kind::Sheets, Kind::Cards] {
+        let mut input = made(kind, 20, 53);
+        for _ in 0..input.len() / 100 {
+            let place = random.below(input.len());
+            input[place] = random.pick(b"\n 09-a\xff");
+        }
+        let answers = ask(&input);
+        assert_eq!(answers.len(), lines_to_answer(&input));
+        assert!(answers.iter().any(|answer| answer == "?"));
+        assert!(answers.iter().any(|answer| answer != "?"));
+    }
+}
+
+/// The first numbers of the answers to requests that answer a number.
+fn numbers_given(requests: &[u8]) -> BTreeSet<u16> {
+    let text = String::from_utf8(requests.to_vec()).expect("requests are plain text");
+    let mut numbers = BTreeSet::new();
+    for (request, answer) in text.lines().zip(ask(requests)) {
+        assert_ne!(answer, "?", "{request}");
+        let word = request.split(' ').next().unwrap_or_default();
+        if [
+            "pair", "put", "remove", "clear", "cell", "load", "write", "host",
+        ]
+        .contains(&word)
+        {
+            let number = answer.split(' ').next().unwrap_or_default();
+            numbers.insert(number.parse().expect("a number in front"));
+        }
+    }
+    numbers
+}
+
+#[test]
+fn batches_depend_on_their_seed_alone() {
+    for kind in [Kind::Pairs, Kind::Sheets, Kind::Cards] {
+        assert_eq!(made(kind, 30, 5), made(kind, 30, 5));
+        assert_ne!(made(kind, 30, 5), made(kind, 30, 6));
+        let (few, many) = (made(kind, 10, 5), made(kind, 30, 5));
+        assert_eq!(
+            many[..few.len()],
+            few,
+            "a longer batch begins as a shorter one"
+        );
+    }
+}
+
+#[test]
+fn batches_are_of_the_size_asked_for() {
+    let lines = |text: &[u8]| text.iter().filter(|&&byte| byte == b'\n').count();
+    assert_eq!(lines(&made(Kind::Pairs, 500, 9)), 500);
+    let count = |kind, line: &str| {
+        let text = String::from_utf8(made(kind, 40, 9)).expect("requests are plain text");
+        text.lines()
+            .filter(|request| request.starts_with(line))
+            .count()
+    };
+    assert!(count(Kind::Sheets, "poke 0 4096 0") >= 40);
+    assert_eq!(count(Kind::Cards, "load "), 40);
+    assert_eq!(made(Kind::Pairs, 0, 9), b"");
+}
+
+#[test]
+fn a_batch_of_pairs_has_every_number() {
+    let batch = made(Kind::Pairs, 1_000, 1);
+    assert_eq!(numbers_given(&batch), (0..=7).collect());
+    let answers = ask(&batch);
+    let pairs: Vec<_> = answers
+        .iter()
+        .filter(|answer| answer.contains(' '))
+        .collect();
+    let refused = pairs
+        .iter()
+        .filter(|answer| !answer.starts_with("0 "))
+        .count();
+    let share = 100 * refused / pairs.len();
+    assert!((25..=42).contains(&share), "{share} in a hundred refused");
+    for region in ["1", "2"] {
+        for number in 1..=7 {
+            let start = format!("{number} {region} ");
+            assert!(
+                pairs.iter().any(|answer| answer.starts_with(&start)),
+                "{start}"
+            );
+        }
+    }
+}
+
+#[test]
+fn a_batch_of_sheets_has_every_number() {
+    let numbers = numbers_given(&made(Kind::Sheets, 60, 1));
+    for number in [0, 1, 2, 3, 4, 5, 6, 7, 8, 9, 11, 12] {
+        assert!(numbers.contains(&number), "{number} in {numbers:?}");
+    }
+}
+
+#[test]
+fn a_batch_of_cards_has_every_number() {
+    let numbers = numbers_given(&made(Kind::Cards, 400, 1));
+    for number in [0, 2, 3, 4, 5, 6, 7, 10, 11, 14, 15, 16, 17] {
+        assert!(numbers.contains(&number), "{number} in {numbers:?}");
+    }
+}

@@ -1,0 +1,17 @@
+//! Document 01 as tests: everything it says of its outlines, the readings of
+//! its open points, and what must hold of any outlines, sheets and cards.
+
+mod area;
+mod cards;
+mod commands;
+mod common;
+mod desk;
+mod foreign;
+mod lists;
+mod matrices;
+mod outlines;
+mod properties;
+mod refusals;
+mod reports;
+mod sheets;
+mod travel;

@@ -1,0 +1,115 @@
+//! The matrices that occur, one row each of data/matrices.tsv: matrix, both
+//! relations, directions, and two regions that show them.
+
+use crate::common::{opposite, outline, pair_numbers, Vertices};
+
+const ROWS: &str = include_str!("../data/matrices.tsv");
+
+/// A list of lists of whole numbers, to any depth.
+#[derive(Debug)]
+enum Value {
+    Number(i32),
+    List(Vec<Value>),
+}
+
+impl Value {
+    fn parse(text: &str) -> Self {
+        let (value, rest) = Self::parse_front(text);
+        assert_eq!(rest, "", "nothing behind the list");
+        value
+    }
+
+    /// The value at the front of a text, and what is behind it.
+    fn parse_front(text: &str) -> (Self, &str) {
+        let Some(mut rest) = text.strip_prefix('[') else {
+            let end = text.find([',', ']']).unwrap_or(text.len());
+            let number = text[..end].parse().expect("a whole number");
+            return (Self::Number(number), &text[end..]);
+        };
+        let mut items = Vec::new();
+        loop {
+            let (item, behind) = Self::parse_front(rest);
+            items.push(item);
+            if let Some(behind) = behind.strip_prefix(']') {
+                return (Self::List(items), behind);
+            }
+            rest = behind.strip_prefix(", ").expect("a comma between items");
+        }
+    }
+
+    fn number(&self) -> i32 {
+        match self {
+            Self::Number(number) => *number,
+            Self::List(_) => panic!("a list in the place of a number"),
+        }
+    }
+
+    fn items(&self) -> &[Value] {
+        match self {
+            Self::Number(_) => panic!("a number in the place of a list"),
+            Self::List(items) => items,
+        }
+    }
+}
+
+fn rings(value: &Value) -> Vec<Vertices> {
+    let vertex = |point: &Value| match point.items() {
+        [x, y] => (x.number(), y.number()),
+        _ => panic!("a vertex of other than two numbers"),
+    };
+    let ring = |ring: &Value| ring.items().iter().map(vertex).collect();
+    value.items().iter().map(ring).collect()
+}
+
+fn check_row(row: &str) {
+    let fields: Vec<&str> = row.split('\t').collect();
+    let [_, matrix, relation, relation_back, directions, first, second] = fields[..] else {
+        panic!("a row of other than seven fields: {row}");
+    };
+    let first = outline(&rings(&Value::parse(first)));
+    let second = outline(&rings(&Value::parse(second)));
+    let matrix = Value::parse(matrix);
+    let rows = matrix.items();
+    let mut cells = [0; 9];
+    for (place, row) in rows.iter().enumerate() {
+        for (cell, value) in cells[3 * place..].iter_mut().zip(row.items()) {
+            *cell = value.number() as u16;
+        }
+    }
+    let number = |text: &str| text.parse::<u16>().expect("a number of tiles");
+    let size = [rows.len() as u16, rows[0].items().len() as u16];
+
+    let answer = pair_numbers(&first, &second);
+    assert_eq!(answer[..3], [0, 0, 0], "{row}");
+    assert_eq!(
+        answer[3..5],
+        [number(relation), number(relation_back)],
+        "{row}"
+    );
+    assert_eq!(answer[5..7], size, "{row}");
+    assert_eq!(answer[7..16], cells, "{row}");
+    assert_eq!(answer[16], number(directions), "{row}");
+
+    let back = pair_numbers(&second, &first);
+    assert_eq!(
+        back[3..5],
+        [number(relation_back), number(relation)],
+        "{row}"
+    );
+    assert_eq!(
+        back[7..16],
+        cells.map(|cell| [0, 2, 1, 3][usize::from(cell)]),
+        "{row}"
+    );
+    assert_eq!(back[16], opposite(number(directions)), "{row}");
+}
+
+#[test]
+fn every_row_is_answered_as_it_says() {
+    let mut lines = ROWS.lines();
+    let header = "#no\tmatrix\trel12\trel21\tdirs12\tregion1\tregion2";
+    assert_eq!(lines.next(), Some(header));
+    let rows: Vec<&str> = lines.collect();
+    assert_eq!(rows.len(), 839);
+    rows.into_iter().for_each(check_row);
+}
