@@ -2,7 +2,7 @@
 --   Held b at l       the list l stands in b from place `at` on
 --   held-left, held-right, held-joined    so do its parts;  held-append, join-held  and parts that follow each other make the whole
 --   u16-held, i32-held        the number whose bytes stand there is read there;  held-u16, held-i32  and the other way round
-use mathlib.Core.Path.{_≡_, refl, sym, _∙_, ap}
+use mathlib.Core.Path.{_≡_, refl, sym, _∙_, ap, subst}
 use mathlib.Core.List.{List, [], _∷_, _++_}
 use Prim.Native.Nat.{ℕ, zero, suc, _+_, _-_, _*_, _/_, _%_, _≤_, _<_}
 use native.Mathlib.Omega.{arith}
@@ -117,12 +117,13 @@ pub held-i32 : (b : List ℕ) (at : ℕ) (z : ℤ) → ((j : ℕ) → getD b j 0
 held-i32 b at z low e =
     let v : u32At b at < 4294967296 = omega (arith, low at, low (at + 1), low (at + 2), low (at + 2 + 1)) in
     let u : unsigned z ≡ u32At b at = ap unsigned (sym e) ∙ unsigned-signed (u32At b at) v in
-    rw u
+    subst (λ (w : ℕ). Held b at (u16Bytes (w % 65536) ++ u16Bytes (w / 65536))) (sym u)
     (held-append b at (u16Bytes (u32At b at % 65536)) (u16Bytes (u32At b at / 65536))
     (held-u16 b at (u32At b at % 65536) (low at) (low (at + 1)) (first (getD b at 0) (getD b (at + 1) 0) (u16At b (at + 2)) (low at) (low (at + 1))))
     (held-u16 b (at + 2) (u32At b at / 65536) (low (at + 2)) (low (at + 2 + 1)) (second (getD b at 0) (getD b (at + 1) 0) (u16At b (at + 2)) (low at) (low (at + 1)))))
   where
     first : (x y w : ℕ) → x < 256 → y < 256 → x + y * 256 ≡ (x + y * 256 + w * 65536) % 65536
     first x y w p q = omega arith
+
     second : (x y w : ℕ) → x < 256 → y < 256 → w ≡ (x + y * 256 + w * 65536) / 65536
     second x y w p q = omega arith

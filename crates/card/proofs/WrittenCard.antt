@@ -1,4 +1,5 @@
 -- A written card: what its bytes read as, for parcels that may stand.
+--   card-same                   it hangs on the 32 slots alone
 --   written-length              its length is that of the layout
 --   parcels-read ..             its header's counts
 --   slot-read, count-read       the entry of a parcel;  ends-read, numbers-read  its ring ends and coordinates
@@ -61,7 +62,7 @@ entry-length : (i : ℕ) (p : Parcel) → length (entryBytes i p) ≡ 4 * stands
 entry-length i nothing = refl
 entry-length i (outline xs ends) = refl
 
-sum-const : (c n : ℕ) → sumTo (λ i. c) n ≡ c * n
+pub sum-const : (c n : ℕ) → sumTo (λ i. c) n ≡ c * n
 unfolding sumTo
 sum-const c zero = omega arith
 sum-const c (suc n) = omega (arith, sum-const c n)
@@ -87,30 +88,47 @@ module _ (st : ℕ → Parcel) where
   abbrev pub X : List ℕ
   X = joined (λ i. vertexBytes (st i)) slots
 
-  entries-to : (n : ℕ) → sumTo (λ i. length (entryBytes i (st i))) n ≡ 4 * sumTo (λ i. stands (st i)) n
+  pub entries-to : (n : ℕ) → sumTo (λ i. length (entryBytes i (st i))) n ≡ 4 * sumTo (λ i. stands (st i)) n
   entries-to n = sum-times 4 _ _ n (λ i l. entry-length i (st i))
 
-  ends-to : (n : ℕ) → sumTo (λ i. length (endBytes (st i))) n ≡ 2 * sumTo (λ i. ringsOf (st i)) n
+  pub ends-to : (n : ℕ) → sumTo (λ i. length (endBytes (st i))) n ≡ 2 * sumTo (λ i. ringsOf (st i)) n
   ends-to n = sum-times 2 _ _ n (λ i l. end-length (st i))
 
-  vertices-to : (n : ℕ) → sumTo (λ i. length (vertexBytes (st i))) n ≡ 8 * sumTo (λ i. verticesOf (st i)) n
+  pub vertices-to : (n : ℕ) → sumTo (λ i. length (vertexBytes (st i))) n ≡ 8 * sumTo (λ i. verticesOf (st i)) n
   vertices-to n = sum-times 8 _ _ n (λ i l. vertex-length (st i))
 
-  entries-length : length E ≡ 4 * parcelTotal st
+  pub entries-length : length E ≡ 4 * parcelTotal st
   unfolding parcelTotal
   entries-length = length-joined (λ i. entryBytes i (st i)) slots ∙ entries-to slots
 
-  ends-length : length N ≡ 2 * ringTotal st
+  pub ends-length : length N ≡ 2 * ringTotal st
   unfolding ringTotal
   ends-length = length-joined (λ i. endBytes (st i)) slots ∙ ends-to slots
 
-  vertices-length : length X ≡ 8 * vertexTotal st
+  pub vertices-length : length X ≡ 8 * vertexTotal st
   unfolding vertexTotal
   vertices-length = length-joined (λ i. vertexBytes (st i)) slots ∙ vertices-to slots
 
   pub written-length : length (cardOf st) ≡ lengthOf (parcelTotal st) (ringTotal st) (vertexTotal st)
   unfolding cardOf
   written-length = omega (arith, entries-length, ends-length, vertices-length, length-append N X, length-append E (N ++ X))
+
+-- ---- a card hangs on what stands in the 32 slots alone
+joined-same : (f g : ℕ → List ℕ) (n : ℕ) → ((i : ℕ) → i < n → f i ≡ g i) → joined f n ≡ joined g n
+unfolding joined
+joined-same f g zero h = refl
+joined-same f g (suc n) h = rw (joined-same f g n (λ i l. h i (omega arith)), h n (omega arith)) refl
+
+pub card-same : (st su : ℕ → Parcel) → ((i : ℕ) → i < slots → st i ≡ su i) → cardOf st ≡ cardOf su
+unfolding cardOf parcelTotal ringTotal vertexTotal
+card-same st su h =
+    let p = sum-same (λ i. stands (st i)) (λ i. stands (su i)) slots (λ i l. ap stands (h i l)) in
+    let r = sum-same (λ i. ringsOf (st i)) (λ i. ringsOf (su i)) slots (λ i l. ap ringsOf (h i l)) in
+    let v = sum-same (λ i. verticesOf (st i)) (λ i. verticesOf (su i)) slots (λ i l. ap verticesOf (h i l)) in
+    let e = joined-same (λ i. entryBytes i (st i)) (λ i. entryBytes i (su i)) slots (λ i l. ap (entryBytes i) (h i l)) in
+    let n = joined-same (λ i. endBytes (st i)) (λ i. endBytes (su i)) slots (λ i l. ap endBytes (h i l)) in
+    let x = joined-same (λ i. vertexBytes (st i)) (λ i. vertexBytes (su i)) slots (λ i l. ap vertexBytes (h i l)) in
+    λ d. u16Bytes (p d) ++ (u16Bytes (r d) ++ (u16Bytes (v d) ++ (u16Bytes parcelsAt ++ (u16Bytes (ringsAt (p d)) ++ (u16Bytes (verticesAt (p d) (r d)) ++ (e d ++ (n d ++ x d)))))))
 
 -- ---- the parts, where they stand
 module _ (st : ℕ → Parcel) where

@@ -1,3 +1,4 @@
 pub mod Layouts
 pub mod Runs
 pub mod Cells
+pub mod Cards
