@@ -1,6 +1,8 @@
 pub mod Lines
 pub mod Grid
+pub mod Kept
 pub mod Cells
 pub mod Holding
 pub mod Matrix
 pub mod Directions
+pub mod DirectionSets

@@ -4,6 +4,7 @@
 --   lines-rise            the list of lines is strictly rising
 --   lines-means           its members are exactly the four lines
 --   lines-turned          the two boxes exchanged give the same list
+--   insert-most           one line put in makes the list longer by at most one
 --   lines-most, lines-least    at most four lines; at least two where a box has room between its lines
 use mathlib.Core.Path.{_≡_, refl, sym, _∙_, ap, subst}
 use mathlib.Core.Logic.{_↔_, _⊎_, inl, inr}
@@ -144,7 +145,7 @@ insert-first w v = iff-join (insert-means w v []) (last, inl)
     last (inl e) = e
     last (inr x) = absurd (omega (arith, x .1))
 
-insert-most : (v : ℕ) (l : List ℕ) (n : ℕ) → length l ≤ n → length (insert v l) ≤ suc n
+pub insert-most : (v : ℕ) (l : List ℕ) (n : ℕ) → length l ≤ n → length (insert v l) ≤ suc n
 unfolding insert
 insert-most v [] n h = omega arith
 insert-most v (u ∷ l) zero h = absurd (omega arith)
