@@ -21,7 +21,8 @@ use Rattle.outline.specs.declared.Checked.the-variants.{Accepted, Refuse
 use Rattle.outline.specs.Refusals.{Refusal, ring-count, ring-length, list-size}
 use Rattle.outline.specs.Region.{mostRings, mostVertices, lastEnd}
 use Rattle.outline.specs.Check.{refusal, firstBreaking, shortAt, outsideAt, shapeOf, checkOf}
-use Rattle.outline.proofs.Region.{Grown, start-le}
+use Rattle.outline.specs.Sized.{Grown}
+use Rattle.outline.proofs.Region.{start-le}
 use Rattle.outline.proofs.Tests.{short-means, outside-at-means}
 use Rattle.outline.proofs.Check.{accepted-means, is-accepted}
 

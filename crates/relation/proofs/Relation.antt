@@ -28,7 +28,8 @@ use Rattle.ring.proofs.RingBox.{box-means, box-there, box-upright}
 use Rattle.ring.proofs.RingTiles.{ring-means, ring-pieces-mean, ring-pieces-le}
 use Rattle.outline.specs.Region.{startOf, sizeOf, lastEnd}
 use Rattle.outline.specs.Rules.{Breaks}
-use Rattle.outline.proofs.Region.{Grown, start-le, size-least, ring-in-last}
+use Rattle.outline.specs.Sized.{Grown}
+use Rattle.outline.proofs.Region.{start-le, size-least, ring-in-last}
 use Rattle.outline.proofs.Tests.{ring-in-range}
 use Rattle.relation.specs.Relation.{KeepsFirstFour, RegionBox, RegionHas, RegionPieces, regionBox, regionHas, relationOf, regionPieces}
 
@@ -100,7 +101,7 @@ module _ (xs : List ℤ) (ends : List ℕ) (kept : KeepsFirstFour xs ends) where
     )
 
   -- the pieces of the first n rings
-  pieces-to : (b : Box) (n : ℕ) → n ≤ length ends
+  pub pieces-to : (b : Box) (n : ℕ) → n ≤ length ends
       → (startOf ends n ≤ sumTo (λ r. ringPieces b xs (startOf ends r) (sizeOf ends r)) n) × (sumTo (λ r. ringPieces b xs (startOf ends r) (sizeOf ends r)) n ≤ startOf ends n * 5)
   unfolding sumTo
   pieces-to b zero h = (omega arith, omega arith)
