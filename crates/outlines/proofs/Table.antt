@@ -24,14 +24,14 @@ use Rattle.matrix.specs.Holding.{insert, linesOf, cellAt, rangeOf, holds}
 use Rattle.matrix.specs.Matrix.{cellValue, matrixOf, flatOf}
 use Rattle.matrix.specs.Directions.{sideOf, holdsFirst, holdsSecond, compassPlace, directed, directionsOf}
 use Rattle.pair.specs.declared.Answer.{Answer}
-use Rattle.pair.specs.Answer.{pairOf, answerOf, answerFor, aroundOf}
+use Rattle.pair.specs.Answer.{pairOf, answerOf, answerFor, given, aroundOf}
 use Rattle.outlines.specs.Rows.{Outline, Row, rows}
 
 abbrev pub answerTo : Row → Answer
 answerTo r = pairOf (r .first .xs) (r .first .ends) (r .second .xs) (r .second .ends)
 
 pub table : map answerTo rows ≡ map (λ r. r .answer) rows
-unfolding placeOf inRange anyTo sumTo firstOf leastTo greatestTo tabFrom setOf clip strip hits moved doubledBox movedEdge has cuts together fresh pieces straddles overlap ends-apart shares one-side folds nextOf ringEdge stretchBox covers equalEnds repeated tangledPair tangled clockwise eastward crossesRay encloses edgesHave ringHas ringPieces firstBreaking shortAt outsideIn outsideAt repeatedAt tangledAt turnedAt shapeOf checkOf regionBox regionHas relationOf regionPieces insert linesOf cellAt rangeOf holds cellValue matrixOf flatOf sideOf holdsFirst holdsSecond compassPlace directed directionsOf pairOf answerOf answerFor
+unfolding placeOf inRange anyTo sumTo firstOf leastTo greatestTo tabFrom setOf clip strip hits moved doubledBox movedEdge has cuts together fresh pieces straddles overlap ends-apart shares one-side folds nextOf ringEdge stretchBox covers equalEnds repeated tangledPair tangled clockwise eastward crossesRay encloses edgesHave ringHas ringPieces firstBreaking shortAt outsideIn outsideAt repeatedAt tangledAt turnedAt shapeOf checkOf regionBox regionHas relationOf regionPieces insert linesOf cellAt rangeOf holds cellValue matrixOf flatOf sideOf holdsFirst holdsSecond compassPlace directed directionsOf pairOf answerOf answerFor given
 table = refl
 
 pub words : map (λ r. aroundOf (r .answer)) rows ≡ map (λ r. r .around) rows

@@ -37,7 +37,7 @@ use Rattle.matrix.specs.Matrix.{matrixOf, flatOf}
 use Rattle.matrix.specs.Directions.{directed, directionsOf, opposite}
 use Rattle.matrix.proofs.Directions.{pair-opposite}
 use Rattle.pair.specs.declared.Answer.{Answer}
-use Rattle.pair.specs.Answer.{refusedWith, orRefused, answerFor, answerOf, pairOf, aroundOf}
+use Rattle.pair.specs.Answer.{refusedWith, orRefused, given, answerFor, answerOf, pairOf, aroundOf}
 
 pub first-four : (xs : List ℤ) (ends : List ℕ) → KeepsRules xs ends → KeepsFirstFour xs ends
 first-four xs ends k = record { keeps = λ n r l b. k .keeps n r b }
@@ -75,7 +75,7 @@ module _ (xs : List ℤ) (ends : List ℕ) (ys : List ℤ) (fs : List ℕ) where
       }
 
   pub fields-are : Answered → pairOf xs ends ys fs ≡ whole
-  unfolding pairOf answerOf answerFor
+  unfolding pairOf answerOf answerFor given
   fields-are a =
       rw (accepted-means xs ends .1 (a .first-kept), accepted-means ys fs .1 (a .second-kept), ne-eqb forth 0 (a .first-tile), ne-eqb back 0 (a .second-tile)) refl
 
@@ -85,7 +85,7 @@ module _ (xs : List ℤ) (ends : List ℕ) (ys : List ℤ) (fs : List ℕ) where
   refused-number zs gs (suc n) r e q = omega arith
 
   number-there : pairOf xs ends ys fs .number ≡ 0 → Answered
-  unfolding pairOf answerOf answerFor
+  unfolding pairOf answerOf answerFor given
   number-there h = first (checkOf xs ends) refl h
     where
       tiles : checkOf xs ends ≡ Accepted → checkOf ys fs ≡ Accepted → (s t : Bool) → eqb forth 0 ≡ s → eqb back 0 ≡ t
@@ -142,7 +142,7 @@ module _ (f : ℕ → Bool) where
 module _ (xs : List ℤ) (ends : List ℕ) (ys : List ℤ) (fs : List ℕ) where
   -- the directions of any pair answer are a set of the nine
   directions-set : (f : ℕ → Bool) × (pairOf xs ends ys fs .directions ≡ setOf f 9)
-  unfolding pairOf answerOf answerFor setOf directionsOf
+  unfolding pairOf answerOf answerFor given setOf directionsOf
   directions-set = first (checkOf xs ends)
     where
       m : List (List ℕ)

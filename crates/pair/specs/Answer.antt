@@ -2,6 +2,8 @@
 -- answer are 0." "The word "around" is yes exactly when the directions are the eight without O".
 --   refusedWith n g r          the refusal with number n that names region g and ring r
 --   orRefused c g a            the answer a where the check c accepts region g, and its refusal where not
+--   refusedBy c g              the refusal of region g by the check c
+--   given a b r s m n          the answer's fields for two boxes, two relations and two piece counts
 --   answerOf xs ends ys fs     the answer for two regions that are accepted
 --   pairOf xs ends ys fs       the pair answer for any lists
 --   aroundOf a                 the word "around" of an answer: no for a refused one
@@ -43,12 +45,15 @@ abbrev pub orRefused : Checked → ℕ → Answer → Answer
 orRefused Accepted g a = a
 orRefused (Refused n r) g a = refusedWith n g r
 
+-- the refusal of a region that the check does not accept: nothing is meant where it does
+abbrev pub refusedBy : Checked → ℕ → Answer
+refusedBy Accepted g = refusedWith 0 0 0
+refusedBy (Refused n r) g = refusedWith n g r
+
 -- the answer for two boxes, the relation of each region to the other's box, and its pieces
-unfoldable pub answerFor : Box → Box → (r s m n : ℕ) → Answer
-answerFor a b r s m n =
-    pick (eqb r 0) (refusedWith (number no-tile) 1 0)
-    (pick (eqb s 0) (refusedWith (number no-tile) 2 0)
-    (record {
+unfoldable pub given : Box → Box → (r s m n : ℕ) → Answer
+given a b r s m n =
+    record {
       number = 0;
       region = 0;
       ring = 0;
@@ -60,7 +65,10 @@ answerFor a b r s m n =
       directions = directionsOf (matrixOf a b r s);
       «first_pieces» = m;
       «second_pieces» = n;
-    }))
+    }
+
+unfoldable pub answerFor : Box → Box → (r s m n : ℕ) → Answer
+answerFor a b r s m n = pick (eqb r 0) (refusedWith (number no-tile) 1 0) (pick (eqb s 0) (refusedWith (number no-tile) 2 0) (given a b r s m n))
 
 unfoldable pub answerOf : List ℤ → List ℕ → List ℤ → List ℕ → Answer
 answerOf xs ends ys fs =
