@@ -2,7 +2,7 @@
 -- relations, row = primary slot, column = reference slot. Ring count 0 means empty; all unused places are 0. A cell of two occupied slots
 -- holds the relation, a parcel with itself holding B; any other cell 0."
 --   slots, room, record-length    32 slots, 128 numbers of coordinates and 9 of ring ends a slot
---   Sheet                   the three lists
+--   Sheet                   the three lists;  sheetOf xs records relations  the sheet whose lists these are
 --   Parcel                  what may stand in a slot: nothing, or an outline
 --   numberAt p k, recordAt p k    number k of the parcel's room and of its record: 0 where unused
 --   selfCell                the cell of a parcel with itself
@@ -40,6 +40,9 @@ pub record Sheet : Type 0 where
   pub coordinates : List ℤ
   pub records : List ℕ
   pub relations : List ℕ
+
+abbrev pub sheetOf : List ℤ → List ℕ → List ℕ → Sheet
+sheetOf xs records relations = record { coordinates = xs; records = records; relations = relations }
 
 pub data Parcel : Type 0 where
   nothing : Parcel

@@ -1,4 +1,6 @@
 pub mod Layout
 pub mod Slots
 pub mod Changes
+pub mod Frame
 pub mod Readings
+pub mod Steps
