@@ -21,7 +21,8 @@ use Rattle.card.proofs.WrittenCard.{card-same}
 use Rattle.card.proofs.RoundTrip.{written-parcel, written-good}
 use Rattle.card.proofs.LoadedCard.{one-form}
 use Rattle.hire.specs.Runs.{Call, afterRun, standing}
-use Rattle.hire.proofs.Layouts.{layout-parcel, layout-same}
+use Rattle.sheet.proofs.Standing.{layout-same}
+use Rattle.hire.proofs.Layouts.{layout-parcel}
 use Rattle.hire.proofs.Runs.{standing-sound, run-layout}
 
 -- loading the card of parcels that may stand lays them out

@@ -29,7 +29,8 @@ use Rattle.card.specs.Load.{cardNumber, loadNumber}
 use Rattle.hire.specs.Runs.{Call, put, remove, clear, load, afterCall, afterRun, AcceptedPut, Spares, put-elsewhere, put-refused, removed-elsewhere, load-refused, Stands, just-put, just-loaded, still, instead, standing, putParcel, fresh}
 use Rattle.outline.proofs.Fits.{accepted-fits}
 use Rattle.card.proofs.Sound.{Sound, sound-card}
-use Rattle.hire.proofs.Layouts.{layout-lists, layout-whole, layout-with, layout-same, count-is}
+use Rattle.sheet.proofs.Standing.{layout-same}
+use Rattle.hire.proofs.Layouts.{layout-lists, layout-whole, layout-with, count-is}
 
 -- number 0 is acceptance
 pub number-zero : (xs : List ℤ) (ends : List ℕ) → numberOf (checkOf xs ends) ≡ 0 → checkOf xs ends ≡ Accepted
