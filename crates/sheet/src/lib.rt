@@ -1,4 +1,5 @@
-// The sheet: 32 slots for parcels, with every relation kept.
+// The sheet: 32 slots for parcels, with every relation kept. A call that changes it answers 0, or the number that refuses it; a refusal
+// leaves the three lists as they were found.
 ghost use mathlib.Core.Path.{_≡_};
 ghost use mathlib.Core.List.{[]};
 ghost use Prim.Native.Nat.{_+_, _*_, _<_};
@@ -138,6 +139,7 @@ fn write_parcel(
     relate(xs, records, relations, slot);
 }
 
+// The outline into its slot, in place of what stands there.
 pub fn put(
     xs: &mut [i32],
     records: &mut [u16],
@@ -157,6 +159,7 @@ pub fn put(
     0
 }
 
+// What stands in the slot, taken out.
 pub fn remove(xs: &mut [i32], records: &mut [u16], relations: &mut [u16], slot: u16) -> u16
     ensures { λ r. ⌜ r ≡ removeNumber (sheetOf (now (xs .entry)) (now (records .entry)) (now (relations .entry))) slot ⌝ }
     ensures { λ _. ⌜ sheetOf (now (xs .exit)) (now (records .exit)) (now (relations .exit)) ≡ remove (sheetOf (now (xs .entry)) (now (records .entry)) (now (relations .entry))) slot ⌝ }
@@ -169,6 +172,7 @@ pub fn remove(xs: &mut [i32], records: &mut [u16], relations: &mut [u16], slot: 
     0
 }
 
+// Every number to 0, also on a damaged sheet.
 pub fn clear(xs: &mut [i32], records: &mut [u16], relations: &mut [u16]) -> u16
     ensures { λ r. ⌜ r ≡ clearNumber (sheetOf (now (xs .entry)) (now (records .entry)) (now (relations .entry))) ⌝ }
     ensures { λ _. ⌜ sheetOf (now (xs .exit)) (now (records .exit)) (now (relations .exit)) ≡ clear (sheetOf (now (xs .entry)) (now (records .entry)) (now (relations .entry))) ⌝ }
@@ -209,6 +213,7 @@ fn read_number(records: &[u16], relations: &[u16], primary: u16, reference: u16)
     0
 }
 
+// The cell of two slots, as it stands.
 pub fn read_cell(records: &[u16], relations: &[u16], primary: u16, reference: u16) -> Reading
     ensures { λ r. ⌜ r ≡ readingOf (now (records .entry)) (now (relations .entry)) primary reference ⌝ }
 {
