@@ -1,5 +1,6 @@
 -- What the pair answer says, in words that a user can check against a map.
 --   number-means      number 0 exactly when both regions keep rules 1 to 7 and both relations have a tile
+--   always-answered   two regions that keep the rules always have a tile each, so 13 is never given
 --   fields-are        the fields of such an answer
 --   tile-means        tile k is in the relation of the first region to the second exactly when the document's rule finds it there
 --   pieces-between    the pieces are at least the edges and at most five times as many
@@ -32,6 +33,7 @@ use Rattle.outline.specs.Check.{checkOf}
 use Rattle.outline.proofs.Check.{accepted-means, refused-means}
 use Rattle.relation.specs.Relation.{KeepsFirstFour, RegionBox, RegionHas, regionBox, relationOf, regionPieces}
 use Rattle.relation.proofs.Relation.{region-in-range, region-upright, region-box-means, relation-means, region-pieces-le, relation-lt}
+use Rattle.relation.proofs.Never.{relation-some}
 use Rattle.matrix.specs.Holding.{rowCount, columnCount}
 use Rattle.matrix.specs.Matrix.{matrixOf, flatOf}
 use Rattle.matrix.specs.Directions.{directed, directionsOf, opposite}
@@ -110,6 +112,16 @@ module _ (xs : List ℤ) (ends : List ℕ) (ys : List ℤ) (fs : List ℕ) where
 
   pub number-means : (pairOf xs ends ys fs .number ≡ 0) ↔ Answered
   number-means = (number-there, λ a. ap (λ (r : Answer). r .number) (fields-are a))
+
+  -- two regions that keep the rules are always answered: number 13 is never given
+  pub always-answered : KeepsRules xs ends → KeepsRules ys fs → Answered
+  always-answered p q =
+      record {
+        first-kept = p;
+        second-kept = q;
+        first-tile = relation-some (regionBox ys fs) (region-upright ys fs) xs ends p;
+        second-tile = relation-some (regionBox xs ends) (region-upright xs ends) ys fs q;
+      }
 
   module _ (a : Answered) where
     pub tile-means : (M : Lines) → RegionBox ys fs M → (k : ℕ) → k < 9 → (bit (pairOf xs ends ys fs .first) k ≡ 1) ↔ RegionHas M xs ends k
