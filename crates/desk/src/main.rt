@@ -1,0 +1,157 @@
+// The desk: every call of the library at a keyboard. Requests come in on standard input, one a line, and each has one line of answer on
+// standard output. There is one sheet, empty at the start.
+mod answers;
+mod fronts;
+mod input;
+mod lists;
+mod names;
+mod outlines;
+mod pairs;
+mod parcels;
+mod sheets;
+
+use input::Place;
+
+// The bytes that a line may have.
+const LONGEST_LINE: usize = 65535;
+// From here on what is written is sent before the next answer: any answer has room behind it.
+const MUCH: usize = 32768;
+
+// What a request comes to: an answer that is written up to this place, without its line feed; a number, two numbers or `ok` that is still
+// to be written; or the line is none of the forms.
+pub enum Reply {
+    Upto(usize),
+    Number(u16),
+    Numbers(u16, u16),
+    Ok,
+    Bad,
+}
+
+fn main() {
+    let mut chunk = io::large_buffer();
+    let mut line = io::large_buffer();
+    let mut out = [0u8; 131072];
+    let mut xs = [0i32; 4097];
+    let mut records = [0u16; 289];
+    let mut relations = [0u16; 1025];
+    let mut lent = [4096, 288, 1024];
+    serve(
+        &mut chunk,
+        &mut line,
+        &mut out,
+        &mut xs,
+        &mut records,
+        &mut relations,
+        &mut lent,
+    );
+}
+
+// A proved loop has to end, and nothing says that the input does. So the loop counts its turns down, from a number that no run uses up.
+fn serve(
+    chunk: &mut [u8; 65536],
+    line: &mut [u8; 65536],
+    out: &mut [u8; 131072],
+    xs: &mut [i32; 4097],
+    records: &mut [u16; 289],
+    relations: &mut [u16; 1025],
+    lent: &mut [usize; 3],
+) {
+    let mut p = input::start();
+    let mut turns = u64::MAX;
+    while turns > 0 {
+        p = turn(p, chunk, line, out, xs, records, relations, lent);
+        if p.is_over {
+            return;
+        }
+        turns -= 1;
+    }
+}
+
+// Answers the next line of the chunk; at its end sends the answers and reads on. The last line may lack its line feed.
+fn turn(
+    before: Place,
+    chunk: &mut [u8; 65536],
+    line: &mut [u8; 65536],
+    out: &mut [u8; 131072],
+    xs: &mut [i32; 4097],
+    records: &mut [u16; 289],
+    relations: &mut [u16; 1025],
+    lent: &mut [usize; 3],
+) -> Place {
+    let p = input::take_line(before, chunk, line);
+    if p.is_line {
+        let at = answer(line, p.held, out, p.at, xs, records, relations, lent);
+        return input::next_line(p, at);
+    }
+    answers::send(out, p.at);
+    let read = input::read_on(p, chunk);
+    if read.is_over {
+        let at = answer(line, p.held, out, 0, xs, records, relations, lent);
+        answers::send(out, at);
+    }
+    read
+}
+
+// Answers the line that the first bytes of `line` are, and answers the place after that.
+fn answer(
+    line: &[u8; 65536],
+    held: usize,
+    out: &mut [u8; 131072],
+    from: usize,
+    xs: &mut [i32; 4097],
+    records: &mut [u16; 289],
+    relations: &mut [u16; 1025],
+    lent: &mut [usize; 3],
+) -> usize {
+    let at = answers::room(out, from, MUCH);
+    if LONGEST_LINE < held {
+        return answers::finish(Reply::Bad, out, at);
+    }
+    let line = fronts::bytes(line, held);
+    if words::is_over(line, 0) {
+        return at;
+    }
+    let reply = ask(line, out, at, xs, records, relations, lent);
+    answers::finish(reply, out, at)
+}
+
+fn ask(
+    line: &[u8],
+    out: &mut [u8; 131072],
+    at: usize,
+    xs: &mut [i32; 4097],
+    records: &mut [u16; 289],
+    relations: &mut [u16; 1025],
+    lent: &mut [usize; 3],
+) -> Reply {
+    let word = words::read_name(line, 0);
+    let name = word.value;
+    let from = word.next;
+    match name {
+        names::PAIR => pairs::pair_reply(line, from, out, at),
+        names::TILES => pairs::tiles_reply(line, from),
+        names::LEND => lists::lend_reply(line, from, lent),
+        names::POKE => lists::poke_reply(line, from, xs, records, relations),
+        names::SHEET => lists::sheet_reply(line, from, out, at, xs, records, relations),
+        names::PUT | names::REMOVE | names::CLEAR => sheets::change(
+            name,
+            line,
+            from,
+            xs,
+            records,
+            relations,
+            lent,
+        ),
+        names::CELL | names::ROW => sheets::read(
+            name,
+            line,
+            from,
+            out,
+            at,
+            records,
+            relations,
+            lent,
+        ),
+        _ => Reply::Bad,
+    }
+}
