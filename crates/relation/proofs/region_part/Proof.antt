@@ -53,33 +53,36 @@ unfolding relationOf regionHas regionPieces
 all-rings b xs ends set sum e f = λ i. record { set = e i; pieces = f i }
 
 abbrev Inv-loop : tie.InvT-loop
-Inv-loop b xs ends set₀ pieces₀ r₀ set sum r = (r ≤ length ends) × (set ≡ tiles b xs ends r) × (sum ≡ count b xs ends r)
+Inv-loop b xs ends t set₀ pieces₀ r₀ set sum r = (r ≤ length ends) × (set ≡ tiles b xs ends r) × (sum ≡ count b xs ends r)
 
 abbrev μ-loop : tie.MeasureT-loop
-μ-loop b xs ends set₀ pieces₀ r₀ set sum r = length ends - r
+μ-loop b xs ends t set₀ pieces₀ r₀ set sum r = length ends - r
+
+class-table-requires : tie.Need-class-table-requires Inv-loop μ-loop
+class-table-requires c κs = search needs
 
 loop-holds : tie.Need-loop-holds Inv-loop μ-loop
-loop-holds c = let a = c .before .args in (omega arith, tiles-none (a .b) (a .xs .now) (a .ends .now), sum-none _)
+loop-holds c = let a = c .before .before .args in (omega arith, tiles-none (a .b) (a .xs .now) (a .ends .now), sum-none _)
 
 start-of-requires : tie.Need-start-of-requires Inv-loop μ-loop
-start-of-requires c κs = omega (arith, c .loop-test .taken)
+start-of-requires c κs = omega (arith, c .before .loop-test .taken)
 
 size-of-requires : tie.Need-size-of-requires Inv-loop μ-loop
-size-of-requires c κs = let p = c .before .before .before .before .pre in (c .before .loop-test .taken, ring-order (p .2) (c .before .before .loop .r) (c .before .loop-test .taken))
+size-of-requires c κs = let p = c .before .before .before .before .before .before .pre in (c .before .before .loop-test .taken, ring-order (p .2) (c .before .before .before .loop .r) (c .before .before .loop-test .taken))
 
 ring-part-requires : tie.Need-ring-part-requires Inv-loop μ-loop
 ring-part-requires c κs =
-    let p = c .before .before .before .before .before .pre in
-    let l = c .before .before .before .loop in
-    let h = c .before .before .loop-test .taken in
-    (p .0, p .1, rw (c .before .start-of .ensures, c .size-of .ensures) (ring-stretch (p .2) (l .r) h (p .3)), rw (c .size-of .ensures) (omega (arith, size-least (c .before .before .before .before .before .args .ends .now) (p .2 .grown) (l .r) h)))
+    let p = c .before .before .before .before .before .before .before .pre in
+    let l = c .before .before .before .before .loop in
+    let h = c .before .before .before .loop-test .taken in
+    (p .0, p .1, rw (c .before .start-of .ensures, c .size-of .ensures) (ring-stretch (p .2) (l .r) h (p .3)), rw (c .size-of .ensures) (omega (arith, size-least (c .before .before .before .before .before .before .before .args .ends .now) (p .2 .grown) (l .r) h)), c .before .before .before .before .before .class-table .ensures)
 
 add-pieces : tie.Need-add-pieces Inv-loop μ-loop
 add-pieces c =
-    let a = c .before .before .before .before .before .before .before .before .args in
-    let p = c .before .before .before .before .before .before .before .before .pre in
-    let l = c .before .before .before .before .before .before .loop in
-    let h = c .before .before .before .before .before .loop-test .taken in
+    let a = c .before .before .before .before .before .before .before .before .before .before .args in
+    let p = c .before .before .before .before .before .before .before .before .before .before .pre in
+    let l = c .before .before .before .before .before .before .before .loop in
+    let h = c .before .before .before .before .before .before .loop-test .taken in
     let q = part-is (a .b) (a .xs .now) (a .ends .now) (l .r) (c .before .before .before .before .start-of .result) (c .before .before .before .size-of .result) (c .before .before .ring-part .result) (c .before .before .before .before .start-of .ensures) (c .before .before .before .size-of .ensures) (c .before .before .ring-part .ensures) in
     let e = count-next (a .b) (a .xs .now) (a .ends .now) (l .r) (l .pieces) (c .before .before .ring-part .result) (l .inv .2) q in
     record { fits = omega (arith, e, count-small (a .b) (a .xs .now) (a .ends .now) (p .2) (p .3) (l .r + 1) (omega arith)) }
@@ -88,14 +91,14 @@ add-r : tie.Need-add-r Inv-loop μ-loop
 add-r c = search needs
 
 loop-less : tie.Need-loop-less Inv-loop μ-loop
-loop-less c = omega (arith, c .before .before .before .before .before .loop-test .taken)
+loop-less c = omega (arith, c .before .before .before .before .before .before .loop-test .taken)
 
 loop-again : tie.Need-loop-again Inv-loop μ-loop
 loop-again c =
-    let a = c .before .before .before .before .before .before .before .before .args in
-    let p = c .before .before .before .before .before .before .before .before .pre in
-    let l = c .before .before .before .before .before .before .loop in
-    let h = c .before .before .before .before .before .loop-test .taken in
+    let a = c .before .before .before .before .before .before .before .before .before .before .args in
+    let p = c .before .before .before .before .before .before .before .before .before .before .pre in
+    let l = c .before .before .before .before .before .before .before .loop in
+    let h = c .before .before .before .before .before .before .loop-test .taken in
     let q = part-is (a .b) (a .xs .now) (a .ends .now) (l .r) (c .before .before .before .before .start-of .result) (c .before .before .before .size-of .result) (c .before .before .ring-part .result) (c .before .before .before .before .start-of .ensures) (c .before .before .before .size-of .ensures) (c .before .before .ring-part .ensures) in (
       omega arith,
       tiles-next (a .b) (a .xs .now) (a .ends .now) (l .r) (l .set) (c .before .before .ring-part .result) (l .inv .1) q,
@@ -104,7 +107,7 @@ loop-again c =
 
 returns : tie.Need-returns Inv-loop μ-loop
 returns c =
-    let a = c .before .before .before .args in
+    let a = c .before .before .before .before .args in
     let l = c .before .loop in
     let e : l .r ≡ length (a .ends .now) = omega (arith, l .inv .0, c .loop-test .left) in
     all-rings (a .b) (a .xs .now) (a .ends .now) (l .set) (l .pieces) (l .inv .1 ∙ ap (tiles (a .b) (a .xs .now) (a .ends .now)) e) (l .inv .2 ∙ ap (count (a .b) (a .xs .now) (a .ends .now)) e)
@@ -115,6 +118,7 @@ region-part-spec =
     (tie.spec
     Inv-loop
     μ-loop
+    class-table-requires
     loop-holds
     start-of-requires
     size-of-requires
