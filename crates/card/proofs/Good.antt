@@ -26,12 +26,12 @@ use Rattle.card.specs.Reading.{parcelCount, ringCount, vertexCount, slot
 use Rattle.card.specs.Load.{wrongHeader, wrongEntry, wrongParcels, wrongVertices, sizesNumber, shapeNumber, firstNumber, cardNumber}
 
 -- a choice with a number in front of it is 0 only past the test
-past : (t : Bool) (n m : ℕ) → n ≢ 0 → pick t n m ≡ 0 → (t ≡ false) × (m ≡ 0)
+pub past : (t : Bool) (n m : ℕ) → n ≢ 0 → pick t n m ≡ 0 → (t ≡ false) × (m ≡ 0)
 past true n m h e = absurd (h e)
 past false n m h e = (refl, e)
 
 -- no number among the first n
-first-zero : (f : ℕ → ℕ) (n k : ℕ) → firstNumber f n ≡ 0 → k < n → f k ≡ 0
+pub first-zero : (f : ℕ → ℕ) (n k : ℕ) → firstNumber f n ≡ 0 → k < n → f k ≡ 0
 unfolding firstNumber
 first-zero f n k h l = go (ltb (firstOf t n) n) refl h
   where
@@ -110,22 +110,32 @@ shape-accepted xs ends h =
     let h7 : numberOf c7 ≡ 0 = ap numberOf (sym (e6 h6)) ∙ h6 in
     e4 ∙ e5 h5 ∙ e6 h6 ∙ e7 h7
 
+pub length-ends : (b : List ℕ) (k : ℕ) → length (endsAt b k) ≡ countAt b k
+unfolding endsAt
+length-ends b k = length-tab _ (countAt b k)
+
+pub length-numbers : (b : List ℕ) (k : ℕ) → length (numbersAt b k) ≡ 2 * lastEnd (endsAt b k)
+unfolding numbersAt
+length-numbers b k = length-tab _ (2 * lastEnd (endsAt b k))
+
+-- an entry that keeps rule 15 counts 1 to 8 rings
+pub entry-rings : (b : List ℕ) (k : ℕ) → wrongEntry b k ≡ false → (1 ≤ countAt b k) × (countAt b k ≤ 8)
+unfolding wrongEntry
+entry-rings b k h =
+    let p = or-false (ltb 0 k && leb (slotAt b k) (slotAt b (k - 1))) _ h in
+    let q = or-false (ltb 31 (slotAt b k)) _ (p .1) in
+    let r = or-false (eqb (countAt b k) 0) (ltb 8 (countAt b k)) (q .1) in
+    (omega (arith, eqb-false (countAt b k) 0 (r .0)), ltb-false 8 (countAt b k) (r .1))
+
 module _ (b : List ℕ) (good : Good b) (k : ℕ) (l : k < parcelCount b) where
   pub ring-total : length (endsAt b k) ≡ countAt b k
-  unfolding endsAt
-  ring-total = length-tab _ (countAt b k)
+  ring-total = length-ends b k
 
   pub number-total : length (numbersAt b k) ≡ 2 * lastEnd (endsAt b k)
-  unfolding numbersAt
-  number-total = length-tab _ (2 * lastEnd (endsAt b k))
+  number-total = length-numbers b k
 
   pub some-rings : (1 ≤ countAt b k) × (countAt b k ≤ 8)
-  unfolding wrongEntry
-  some-rings =
-      let p = or-false (ltb 0 k && leb (slotAt b k) (slotAt b (k - 1))) _ (good .entries k l) in
-      let q = or-false (ltb 31 (slotAt b k)) _ (p .1) in
-      let r = or-false (eqb (countAt b k) 0) (ltb 8 (countAt b k)) (q .1) in
-      (omega (arith, eqb-false (countAt b k) 0 (r .0)), ltb-false 8 (countAt b k) (r .1))
+  some-rings = entry-rings b k (good .entries k l)
 
   pub slot-small : slotAt b k < 32
   unfolding wrongEntry

@@ -2,5 +2,16 @@ pub mod Good
 pub mod Sound
 pub mod Held
 pub mod WrittenCard
+pub mod FirstNumber
 pub mod RoundTrip
 pub mod LoadedCard
+pub mod Placed
+pub mod Signs
+pub mod Bounds
+pub mod Sums
+pub mod Filling
+pub mod CardTests
+pub mod Loading
+pub mod Parts
+pub mod WholeCard
+pub mod Only

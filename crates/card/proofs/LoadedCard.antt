@@ -28,6 +28,7 @@ use Rattle.card.specs.Load.{wrongHeader, wrongEntry, cardNumber}
 use Rattle.card.specs.Write.{stands, ringsOf, verticesOf, entryBytes, endBytes, vertexBytes, parcelTotal, ringTotal, vertexTotal, cardOf}
 use Rattle.card.proofs.Held.{Held, held-append, join-held, held-u16, held-i32}
 use Rattle.card.proofs.Good.{Good, or-false, slot-small, ring-total}
+use Rattle.card.proofs.Bounds.{Header, header-means}
 use Rattle.card.proofs.WrittenCard.{before, E, N, X, sum-const, entries-to, ends-to, vertices-to as bytes-to, entries-length, ends-length, written-length}
 
 plus-none : (a : ℕ) → a + 0 ≡ a
@@ -54,7 +55,7 @@ module _ (b : List ℕ) (good : Good b) where
       let e : j + suc (suc d) ≡ j + suc d + 1 = omega arith in
       rw e (omega (arith, later-slot j d (omega arith), next-slot (j + suc d) (omega arith)))
 
-  slots-rise : (j k : ℕ) → j < k → k < P → slotAt b j < slotAt b k
+  pub slots-rise : (j k : ℕ) → j < k → k < P → slotAt b j < slotAt b k
   slots-rise j k l h =
       let e : j + suc (k - suc j) ≡ k = omega arith in
       rw e at (later-slot j (k - suc j) (omega arith))
@@ -182,28 +183,8 @@ module _ (b : List ℕ) (good : Good b) where
   unfolding vertexTotal firstVertex parcelTotal
   vertices-all = vertices-to slots (omega arith) ∙ ap (sumTo (λ k. lastEnd (endsAt b k))) parcels-all ∙ good .vertices
 
-  record Header : Type 0 where
-    first : u16At b 6 ≡ parcelsAt
-    second : u16At b 8 ≡ ringsAt P
-    third : u16At b 10 ≡ verticesAt P (ringCount b)
-    total : length b ≡ lengthOf P (ringCount b) (vertexCount b)
-
-  header : Header
-  unfolding wrongHeader
-  header =
-      let x1 = or-false (ltb (length b) 12) _ (good .header) .1 in
-      let x2 = or-false (ltb 32 P) _ x1 .1 in
-      let x3 = or-false (ltb 256 (ringCount b)) _ x2 .1 in
-      let x4 = or-false (ltb 2048 (vertexCount b)) _ x3 .1 in
-      let x5 = or-false (not (eqb (u16At b 6) parcelsAt)) _ x4 in
-      let x6 = or-false (not (eqb (u16At b 8) (ringsAt P))) _ (x5 .1) in
-      let x7 = or-false (not (eqb (u16At b 10) (verticesAt P (ringCount b)))) _ (x6 .1) in
-      record {
-        first = eqb-true _ _ (not-false (eqb (u16At b 6) parcelsAt) (x5 .0));
-        second = eqb-true _ _ (not-false (eqb (u16At b 8) (ringsAt P)) (x6 .0));
-        third = eqb-true _ _ (not-false (eqb (u16At b 10) (verticesAt P (ringCount b))) (x7 .0));
-        total = eqb-true _ _ (not-false (eqb (length b) (lengthOf P (ringCount b) (vertexCount b))) (x7 .1));
-      }
+  header : Header b
+  header = header-means b (good .header)
 
   module _ (low : (j : ℕ) → getD b j 0 < 256) where
     word-held : (at v : ℕ) → u16At b at ≡ v → Held b at (u16Bytes v)

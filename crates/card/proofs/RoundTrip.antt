@@ -26,6 +26,7 @@ use Rattle.card.specs.Layout.{parcelsAt, ringsAt, verticesAt, lengthOf}
 use Rattle.card.specs.Reading.{parcelCount, ringCount, vertexCount, slotAt, countAt, firstRing, firstVertex, entryOf, parcelIn, endsAt, numbersAt}
 use Rattle.card.specs.Load.{wrongHeader, wrongEntry, wrongParcels, wrongVertices, sizesNumber, shapeNumber, firstNumber, cardNumber}
 use Rattle.card.specs.Write.{stands, parcelTotal, ringTotal, vertexTotal, cardOf}
+use Rattle.card.proofs.FirstNumber.{none-first}
 use Rattle.card.proofs.Held.{u16-held}
 use Rattle.card.proofs.Sound.{Sound}
 use Rattle.card.proofs.WrittenCard.{B, before, parts, written-length, parcels-le, rings-le, vertices-le, parcels-read, rings-read, vertices-read, slot-read, count-read, rings-before, ends-read, vertices-before, numbers-read}
@@ -217,12 +218,6 @@ module _ (st : ℕ → Parcel) where
       where
         total : sumTo (countAt (B st)) (parcelCount (B st)) ≡ ringCount (B st)
         total = ap (sumTo (countAt (B st))) total-is ∙ rings-all ∙ sym (rings-read st sound)
-
-    none-first : (f : ℕ → ℕ) (n : ℕ) → ((k : ℕ) → k < n → f k ≡ 0) → firstNumber f n ≡ 0
-    unfolding firstNumber
-    none-first f n h =
-        let e = first-none (λ i. not (eqb (f i) 0)) n (λ k l. ap not (eq-eqb (f k) 0 (h k l))) in
-        rw (e, le-ltb n n (omega arith)) refl
 
     vertices-right : wrongVertices (cardOf st) ≡ false
     unfolding wrongVertices

@@ -114,7 +114,7 @@ module _ (st : ℕ → Parcel) where
   written-length = omega (arith, entries-length, ends-length, vertices-length, length-append N X, length-append E (N ++ X))
 
 -- ---- a card hangs on what stands in the 32 slots alone
-joined-same : (f g : ℕ → List ℕ) (n : ℕ) → ((i : ℕ) → i < n → f i ≡ g i) → joined f n ≡ joined g n
+pub joined-same : (f g : ℕ → List ℕ) (n : ℕ) → ((i : ℕ) → i < n → f i ≡ g i) → joined f n ≡ joined g n
 unfolding joined
 joined-same f g zero h = refl
 joined-same f g (suc n) h = rw (joined-same f g n (λ i l. h i (omega arith)), h n (omega arith)) refl

@@ -3,3 +3,4 @@ pub mod Layout
 pub mod Reading
 pub mod Load
 pub mod Write
+pub mod Steps

@@ -1,7 +1,122 @@
 // The card: bytes to parcels and back.
+ghost use mathlib.Core.Path.{_≡_};
+ghost use mathlib.Core.Bool.{false};
+ghost use Prim.Native.Nat.{_<_};
+ghost use Rattle.sheet.specs.Layout.{sheetOf, layout};
+ghost use Rattle.sheet.specs.Slots.{wrongLists};
+ghost use Rattle.sheet.specs.Changes.{put};
+ghost use Rattle.card.specs.Reading.{parcelCount, slotAt, endsAt, numbersAt, parcelIn};
+ghost use Rattle.card.specs.Load.{cardNumber, loadNumber, load};
+ghost use Rattle.card.specs.Write.{written, write};
+use parcels::PARCELS_AT;
+use parcels::parcel_count;
+use parcels::read_ends;
+use parcels::read_numbers;
+use parcels::slot_at;
+use sheet::SHEET_DAMAGED;
+use sheet::SHEET_LISTS;
+use sheet::clear;
+use sheet::damage::sheet_damaged;
+use sheet::put;
+use sheet::wrong_lists;
+use tests::card_number;
+use writing::count_all;
+use writing::put_card;
+
+pub mod bytes;
+pub mod parcels;
+pub mod tests;
+mod writing;
+
+pub const BUFFER_SHORT: u16 = 10;
 
 // What writing a card answers: 0 and the card's length, or the number of the refusal and 0.
 pub struct Written {
     pub number: u16,
     pub length: usize,
+}
+
+// How many parcels, rings and vertices stand.
+pub struct Totals {
+    pub parcels: usize,
+    pub rings: usize,
+    pub vertices: usize,
+}
+
+// Parcel k of a good card into its slot.
+fn put_parcel(xs: &mut [i32], records: &mut [u16], relations: &mut [u16], card: &[u8], k: usize)
+    requires { ⌜ (cardNumber (now card) ≡ 0) × (k < parcelCount (now card)) ⌝ }
+    ensures { λ _. ⌜ sheetOf (now (xs .exit)) (now (records .exit)) (now (relations .exit)) ≡ put (sheetOf (now (xs .entry)) (now (records .entry)) (now (relations .entry))) (slotAt (now (card .entry)) k) (numbersAt (now (card .entry)) k) (endsAt (now (card .entry)) k) ⌝ }
+{
+    let mut list = [0u16; 8];
+    let rings = read_ends(card, k, &mut list);
+    let mut numbers = [0i32; 128];
+    let n = read_numbers(card, k, &mut numbers);
+    let slot = slot_at(card, k);
+    put(
+        xs,
+        records,
+        relations,
+        slot,
+        &numbers[0..n],
+        &list[0..rings],
+    );
+}
+
+// The parcels of a good card, and nothing else, onto the sheet.
+fn lay_out(xs: &mut [i32], records: &mut [u16], relations: &mut [u16], card: &[u8])
+    requires { ⌜ (wrongLists (sheetOf (now xs) (now records) (now relations)) ≡ false) × (cardNumber (now card) ≡ 0) ⌝ }
+    ensures { λ _. ⌜ sheetOf (now (xs .exit)) (now (records .exit)) (now (relations .exit)) ≡ layout (parcelIn (now (card .entry))) ⌝ }
+{
+    clear(xs, records, relations);
+    let parcels = parcel_count(card);
+    let mut k = 0;
+    while k < parcels {
+        put_parcel(xs, records, relations, card, k);
+        k += 1;
+    }
+}
+
+// Nothing is written before the whole card is checked.
+pub fn load(xs: &mut [i32], records: &mut [u16], relations: &mut [u16], card: &[u8]) -> u16
+    ensures { λ r. ⌜ r ≡ loadNumber (sheetOf (now (xs .entry)) (now (records .entry)) (now (relations .entry))) (now (card .entry)) ⌝ }
+    ensures { λ _. ⌜ sheetOf (now (xs .exit)) (now (records .exit)) (now (relations .exit)) ≡ load (sheetOf (now (xs .entry)) (now (records .entry)) (now (relations .entry))) (now (card .entry)) ⌝ }
+{
+    if wrong_lists(xs, records, relations) {
+        return SHEET_LISTS;
+    }
+    let n = card_number(card);
+    if n != 0 {
+        return n;
+    }
+    lay_out(xs, records, relations, card);
+    0
+}
+
+pub fn write(xs: &[i32], records: &[u16], relations: &[u16], buffer: &mut [u8]) -> Written
+    ensures { λ r. ⌜ r ≡ written (sheetOf (now (xs .entry)) (now (records .entry)) (now (relations .entry))) (now (buffer .entry)) ⌝ }
+    ensures { λ _. ⌜ now (buffer .exit) ≡ write (sheetOf (now (xs .entry)) (now (records .entry)) (now (relations .entry))) (now (buffer .entry)) ⌝ }
+{
+    if wrong_lists(xs, records, relations) {
+        return Written {
+            number: SHEET_LISTS,
+            length: 0,
+        };
+    }
+    if sheet_damaged(xs, records) {
+        return Written {
+            number: SHEET_DAMAGED,
+            length: 0,
+        };
+    }
+    let t = count_all(records);
+    let length = PARCELS_AT + 4 * t.parcels + 2 * t.rings + 8 * t.vertices;
+    if buffer.len() < length {
+        return Written {
+            number: BUFFER_SHORT,
+            length: 0,
+        };
+    }
+    put_card(buffer, xs, records, t);
+    Written { number: 0, length }
 }

@@ -48,7 +48,7 @@ pub enum Reading {
 }
 
 // Rule 11.
-fn wrong_lists(xs: &[i32], records: &[u16], relations: &[u16]) -> bool
+pub fn wrong_lists(xs: &[i32], records: &[u16], relations: &[u16]) -> bool
     ensures { λ r. ⌜ r ≡ wrongLists (sheetOf (now (xs .entry)) (now (records .entry)) (now (relations .entry))) ⌝ }
 {
     if xs.len() != COORDINATES {
@@ -79,7 +79,7 @@ fn change_number(xs: &[i32], records: &[u16], relations: &[u16], slot: u16) -> u
     0
 }
 
-fn number_of(checked: Checked) -> u16
+pub fn number_of(checked: Checked) -> u16
     ensures { λ r. ⌜ r ≡ numberOf checked ⌝ }
 {
     match checked {

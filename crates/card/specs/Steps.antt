@@ -1,0 +1,82 @@
+-- What the functions behind the calls compute, and what they may rely on. No promise hangs on these names: proofs/ shows that the steps
+-- together are the calls of specs/Load and specs/Write.
+--   placed b at l           the bytes b once those of l are stored from place `at` on
+--   wordBytes ws n, numberBytes xs n      the bytes of the first n numbers of a list, two each and four
+--   RightParcels b          the card keeps rules 14 and 15: every ring entry is there
+--   RightVertices b         it keeps rules 2, 3 and 16 too: every vertex is there
+--   loaded b n i            what the first n parcels of the card b put into slot i
+--   Counted records         the ring counts and the last ends of an undamaged sheet
+--   totalsOf records        how many parcels, rings and vertices stand;  headerOf t  the numbers of the header
+--   entriesTo st n, endsTo st n, verticesTo st n     the three parts of a card, as far as the first n slots
+use mathlib.Core.Path.{_≡_}
+use mathlib.Core.Bool.{false}
+use mathlib.Core.List.{List, [], _∷_, _++_}
+use Prim.Native.Nat.{ℕ, suc, _/_, _%_, _≤_, _<_}
+use lib.Dec.{ltb, eqb}
+use lib.ListN.{length, getD, set}
+use lib.IntN.{ℤ, pos}
+use Rattle.plane.specs.Choice.{pick}
+use Rattle.plane.specs.Folds.{sumTo}
+use Rattle.outline.specs.Region.{mostRings, mostVertices, lastEnd}
+use Rattle.sheet.specs.Layout.{Parcel, nothing, outline, slots, records-length}
+use Rattle.sheet.specs.Slots.{countOf, endsOf}
+use Rattle.sheet.specs.Steps.{slotsOf}
+use Rattle.card.specs.declared.Totals.{Totals}
+use Rattle.card.specs.Bytes.{u16Bytes, i32Bytes, joined}
+use Rattle.card.specs.Layout.{parcelsAt, ringsAt, verticesAt}
+use Rattle.card.specs.Write.{entryBytes, endBytes, vertexBytes}
+use Rattle.card.specs.Reading.{parcelCount, endsAt, numbersAt, entryOf}
+use Rattle.card.specs.Load.{wrongHeader, wrongParcels, sizesNumber, wrongVertices}
+
+unfoldable pub placed : List ℕ → ℕ → List ℕ → List ℕ
+placed b at [] = b
+placed b at (x ∷ l) = placed (set b at x) (suc at) l
+
+abbrev pub u32Bytes : ℕ → List ℕ
+u32Bytes v = u16Bytes (v % 65536) ++ u16Bytes (v / 65536)
+
+abbrev pub wordBytes : List ℕ → ℕ → List ℕ
+wordBytes ws n = joined (λ k. u16Bytes (getD ws k 0)) n
+
+abbrev pub numberBytes : List ℤ → ℕ → List ℕ
+numberBytes xs n = joined (λ k. i32Bytes (getD xs k (pos 0))) n
+
+pub record RightParcels (b : List ℕ) : Type 0 where
+  pub header : wrongHeader b ≡ false
+  pub parcels : wrongParcels b ≡ false
+
+pub record RightVertices (b : List ℕ) : Type 0 where
+  pub parcels : RightParcels b
+  pub sizes : (k : ℕ) → k < parcelCount b → sizesNumber b k ≡ 0
+  pub vertices : wrongVertices b ≡ false
+
+unfoldable pub loaded : List ℕ → ℕ → ℕ → Parcel
+loaded b n i = pick (ltb (entryOf b i) n) (outline (numbersAt b (entryOf b i)) (endsAt b (entryOf b i))) nothing
+
+pub record Counted (records : List ℕ) : Type 0 where
+  pub record-list : length records ≡ records-length
+  pub few : (i : ℕ) → i < slots → countOf (slotsOf [] records) i ≤ mostRings
+  pub low : (i : ℕ) → i < slots → lastEnd (endsOf (slotsOf [] records) i) ≤ mostVertices
+
+abbrev pub stood : ℕ → ℕ
+stood rings = pick (eqb rings 0) 0 1
+
+unfoldable pub totalsOf : List ℕ → Totals
+totalsOf records =
+    record {
+      parcels = sumTo (λ i. stood (countOf (slotsOf [] records) i)) slots;
+      rings = sumTo (λ i. countOf (slotsOf [] records) i) slots;
+      vertices = sumTo (λ i. lastEnd (endsOf (slotsOf [] records) i)) slots;
+    }
+
+abbrev pub headerOf : Totals → List ℕ
+headerOf t = t .parcels ∷ t .rings ∷ t .vertices ∷ parcelsAt ∷ ringsAt (t .parcels) ∷ verticesAt (t .parcels) (t .rings) ∷ []
+
+abbrev pub entriesTo : (ℕ → Parcel) → ℕ → List ℕ
+entriesTo st n = joined (λ i. entryBytes i (st i)) n
+
+abbrev pub endsTo : (ℕ → Parcel) → ℕ → List ℕ
+endsTo st n = joined (λ i. endBytes (st i)) n
+
+abbrev pub verticesTo : (ℕ → Parcel) → ℕ → List ℕ
+verticesTo st n = joined (λ i. vertexBytes (st i)) n
