@@ -2,7 +2,7 @@
 -- 17, 13. Report, 19 little-endian u16: 0, 0, 0, relation of first to second, second to first, rows, columns, nine cells by row, directions
 -- of first to second, pieces of first, of second. Bytes past 38 keep their values."
 --   reportLength              38 bytes
---   pairIn card               the pair answer for the card's first and second parcel
+--   pairIn card j k           the pair answer for parcels j and k of the card, counted from 0 in its order
 --   reportWords a             the 19 numbers of an answer
 --   hostNumber card report    the number that the call returns;  hostReport  the report buffer at exit
 use mathlib.Core.Bool.{not}
@@ -21,8 +21,8 @@ use Rattle.card.specs.Load.{cardNumber}
 abbrev pub reportLength : ℕ
 reportLength = 38
 
-unfoldable pub pairIn : List ℕ → Answer
-pairIn card = pairOf (numbersAt card 0) (endsAt card 0) (numbersAt card 1) (endsAt card 1)
+unfoldable pub pairIn : List ℕ → (j k : ℕ) → Answer
+pairIn card j k = pairOf (numbersAt card j) (endsAt card j) (numbersAt card k) (endsAt card k)
 
 abbrev pub reportWords : Answer → List ℕ
 reportWords a =
@@ -32,8 +32,8 @@ reportWords a =
 unfoldable pub hostNumber : (card report : List ℕ) → ℕ
 hostNumber card report =
     pick (ltb (length report) reportLength) (number buffer-short)
-    (pick (not (eqb (cardNumber card) 0)) (cardNumber card) (pick (not (eqb (parcelCount card) 2)) (number not-two-parcels) (pairIn card .number)))
+    (pick (not (eqb (cardNumber card) 0)) (cardNumber card) (pick (not (eqb (parcelCount card) 2)) (number not-two-parcels) (pairIn card 0 1 .number)))
 
 unfoldable pub hostReport : (card report : List ℕ) → List ℕ
 hostReport card report =
-    pick (eqb (hostNumber card report) 0) (joined (λ k. u16Bytes (getD (reportWords (pairIn card)) k 0)) 19 ++ drop reportLength report) report
+    pick (eqb (hostNumber card report) 0) (joined (λ k. u16Bytes (getD (reportWords (pairIn card 0 1)) k 0)) 19 ++ drop reportLength report) report
