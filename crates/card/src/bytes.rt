@@ -10,7 +10,9 @@ pub fn u16_at(b: &[u8], i: usize) -> u16
     requires { ⌜ i + 2 ≤ length (now b) ⌝ }
     ensures { λ r. ⌜ r ≡ u16At (now (b .entry)) i ⌝ }
 {
-    b[i] as u16 + b[i + 1] as u16 * 256
+    let low = b[i] as u16;
+    let high = b[i + 1] as u16;
+    low + high * 256
 }
 
 fn u32_at(b: &[u8], i: usize) -> u32

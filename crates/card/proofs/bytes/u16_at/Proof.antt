@@ -6,26 +6,26 @@ use Rattle.card.proofs.bytes.u16_at.Tie as tie
 use Rattle.card.proofs.bytes.u16_at.Reads as reads
 use Rattle.card.proofs.bytes.u16_at.Lts as lts
 
-shared-slice-read-result : tie.Need-shared-slice-read-result
-shared-slice-read-result c = search needs
+shared-slice-read-low : tie.Need-shared-slice-read-low
+shared-slice-read-low c = search needs
 
-cast-result : tie.Need-cast-result
-cast-result c = omega (arith, c .shared-slice-known .given (c .before .args .i))
+cast-low : tie.Need-cast-low
+cast-low c = omega (arith, c .shared-slice-known .given (c .before .args .i))
 
-add-result : tie.Need-add-result
-add-result c = search needs
+add-high : tie.Need-add-high
+add-high c = search needs
 
-shared-slice-read-result-2 : tie.Need-shared-slice-read-result-2
-shared-slice-read-result-2 c = search needs
+shared-slice-read-high : tie.Need-shared-slice-read-high
+shared-slice-read-high c = search needs
 
-cast-result-2 : tie.Need-cast-result-2
-cast-result-2 c = omega (arith, c .shared-slice-known2 .given (c .before .before .args .i + 1))
+cast-high : tie.Need-cast-high
+cast-high c = omega (arith, c .shared-slice-known2 .given (c .before .before .args .i + 1))
 
 mul-result : tie.Need-mul-result
-mul-result c = omega (arith, c .shared-slice-known2 .given (c .before .before .args .i + 1))
+mul-result c = omega (arith, c .shared-slice-known2 .given (c .before .before .args .i + 1), c .before .shared-slice-known .given (c .before .before .args .i))
 
-add-result-2 : tie.Need-add-result-2
-add-result-2 c = omega (arith, c .shared-slice-known2 .given (c .before .before .args .i + 1), c .before .shared-slice-known .given (c .before .before .args .i))
+add-result : tie.Need-add-result
+add-result c = omega (arith, c .shared-slice-known2 .given (c .before .before .args .i + 1), c .before .shared-slice-known .given (c .before .before .args .i))
 
 returns : tie.Need-returns
 returns c = search needs
@@ -34,11 +34,11 @@ pub u16-at-spec : {M : Type 1} → statement M
 u16-at-spec =
     tie.close
     (tie.spec
-    shared-slice-read-result
-    cast-result
-    add-result
-    shared-slice-read-result-2
-    cast-result-2
+    shared-slice-read-low
+    cast-low
+    add-high
+    shared-slice-read-high
+    cast-high
     mul-result
-    add-result-2
+    add-result
     returns)
