@@ -14,13 +14,14 @@ use independent::listing::listing;
 use independent::make::{self, Kind};
 
 const USAGE: &str =
-    "usage: independent desk | list | make pairs|sheets|cards N SEED | cards N SEED DIR";
+    "usage: independent desk | list | make pairs|sheets|cards|short N SEED | spoil | cards N SEED DIR";
 
 /// What is asked for on the command line.
 enum Command {
     Desk,
     List,
     Make(Kind, u64, u64),
+    Spoil,
     Cards(u64, u64, PathBuf),
 }
 
@@ -49,18 +50,24 @@ fn run(command: Command) -> io::Result<()> {
     match command {
         Command::Desk => desk::run(io::stdin().lock(), &mut output),
         Command::List => {
-            // One byte more than the longest card shows that it is no card.
-            let mut bytes = Vec::new();
-            let input = io::stdin().lock();
-            input
-                .take(card::LONGEST as u64 + 1)
-                .read_to_end(&mut bytes)?;
-            output.write_all(listing(&bytes).as_bytes())?;
+            output.write_all(listing(&card_on_input()?).as_bytes())?;
             output.flush()
         }
         Command::Make(kind, items, seed) => make::batch(kind, items, seed, &mut output),
+        Command::Spoil => make::spoiled(&card_on_input()?, &mut output),
         Command::Cards(items, seed, directory) => make::card_files(items, seed, &directory),
     }
+}
+
+/// The bytes on standard input. One byte more than the longest card shows that
+/// they are no card.
+fn card_on_input() -> io::Result<Vec<u8>> {
+    let mut bytes = Vec::new();
+    let input = io::stdin().lock();
+    input
+        .take(card::LONGEST as u64 + 1)
+        .read_to_end(&mut bytes)?;
+    Ok(bytes)
 }
 
 fn parse(words: &[OsString]) -> Result<Command, String> {
@@ -70,6 +77,7 @@ fn parse(words: &[OsString]) -> Result<Command, String> {
     match (command.to_str(), rest) {
         (Some("desk"), []) => Ok(Command::Desk),
         (Some("list"), []) => Ok(Command::List),
+        (Some("spoil"), []) => Ok(Command::Spoil),
         (Some("make"), [kind, items, seed]) => Ok(Command::Make(
             parse_kind(kind)?,
             number(items)?,
@@ -80,7 +88,7 @@ fn parse(words: &[OsString]) -> Result<Command, String> {
             number(seed)?,
             directory.into(),
         )),
-        (Some("desk" | "list" | "make" | "cards"), _) => {
+        (Some("desk" | "list" | "make" | "spoil" | "cards"), _) => {
             Err(format!("wrong number of words after {}", command.display()))
         }
         _ => Err(format!("unknown command {}", command.display())),
@@ -92,6 +100,7 @@ fn parse_kind(word: &OsString) -> Result<Kind, String> {
         Some("pairs") => Ok(Kind::Pairs),
         Some("sheets") => Ok(Kind::Sheets),
         Some("cards") => Ok(Kind::Cards),
+        Some("short") => Ok(Kind::Short),
         _ => Err(format!("unknown kind {}", word.display())),
     }
 }

@@ -37,6 +37,36 @@ pub fn requests(random: &mut Random) -> Vec<String> {
     lines
 }
 
+/// A card of 0 to 40 random bytes, every length in turn, and requests about it.
+pub fn short_requests(item: u64, random: &mut Random) -> Vec<String> {
+    let length = item % 41;
+    let card: Vec<u8> = (0..length).map(|_| random.any_byte()).collect();
+    questions(&card)
+}
+
+/// Requests about every card that is the start of this one, without its end,
+/// and every one that differs from it in one byte.
+pub fn spoiled_requests(card: &[u8]) -> impl Iterator<Item = String> + '_ {
+    let cuts = (0..card.len()).map(|length| card[..length].to_vec());
+    let changes = (0..card.len()).flat_map(move |place| {
+        (1..=255).map(move |change| {
+            let mut other = card.to_vec();
+            other[place] ^= change;
+            other
+        })
+    });
+    cuts.chain(changes).flat_map(|other| questions(&other))
+}
+
+/// What every call on a card's bytes has to say of them.
+fn questions(card: &[u8]) -> Vec<String> {
+    vec![
+        load_request(card),
+        "sheet".to_owned(),
+        host_request(REPORT, card),
+    ]
+}
+
 /// One card: good, broken in its numbers, or changed in its bytes.
 pub fn card(random: &mut Random) -> Vec<u8> {
     match random.below(100) {

@@ -27,6 +27,8 @@ pub enum Kind {
     Sheets,
     /// Cards, each with requests about it.
     Cards,
+    /// Cards of 0 to 40 random bytes, each with requests about it.
+    Short,
 }
 
 /// Writes a batch of so many items of a kind, one request a line.
@@ -37,10 +39,19 @@ pub fn batch(kind: Kind, items: u64, seed: u64, output: &mut impl Write) -> io::
             Kind::Pairs => vec![pairs::request(&mut random)],
             Kind::Sheets => sheets::run(&mut random),
             Kind::Cards => cards::requests(&mut random),
+            Kind::Short => cards::short_requests(item, &mut random),
         };
         for line in lines {
             writeln!(output, "{line}")?;
         }
+    }
+    output.flush()
+}
+
+/// Writes requests about every cut and every one-byte change of a card.
+pub fn spoiled(card: &[u8], output: &mut impl Write) -> io::Result<()> {
+    for line in cards::spoiled_requests(card) {
+        writeln!(output, "{line}")?;
     }
     output.flush()
 }

@@ -1,5 +1,6 @@
 //! The program as it is called.
 
+use std::collections::HashSet;
 use std::fs;
 use std::io::{Read, Write};
 use std::path::PathBuf;
@@ -139,4 +140,39 @@ fn a_directory_that_cannot_be_is_an_error_in_words() {
     let output = run(&["cards", "1", "1", "/dev/null/cards"], b"");
     assert_eq!(output.status.code(), Some(1));
     assert!(output.stderr.starts_with(b"independent: "));
+}
+
+#[test]
+fn a_card_is_spoiled_in_every_place_and_cut_at_every_length() {
+    let card = [0, 0, 0, 0, 0, 0, 12, 0, 12, 0, 12, 0];
+    let requests = run(&["spoil"], &card).stdout;
+    let requests = String::from_utf8(requests).expect("plain text");
+    let loads = requests
+        .lines()
+        .filter_map(|line| line.strip_prefix("load "))
+        .filter_map(|word| independent::hex::read(word.as_bytes()));
+    let cards: HashSet<Vec<u8>> = loads.collect();
+    assert_eq!(cards.len(), 12 + 12 * 255);
+    assert!(!cards.contains(&card[..]));
+    for other in &cards {
+        let differing = other.iter().zip(&card).filter(|(a, b)| a != b).count();
+        assert!(differing + card.len() - other.len() == 1 || differing == 0);
+    }
+}
+
+#[test]
+fn short_cards_have_every_length() {
+    let requests = run(&["make", "short", "82", "1"], b"").stdout;
+    let requests = String::from_utf8(requests).expect("plain text");
+    let loads = requests
+        .lines()
+        .filter_map(|line| line.strip_prefix("load "));
+    let lengths: Vec<usize> = loads
+        .map(|word| {
+            independent::hex::read(word.as_bytes())
+                .expect("bytes")
+                .len()
+        })
+        .collect();
+    assert_eq!(lengths, (0..41).chain(0..41).collect::<Vec<usize>>());
 }
