@@ -4,8 +4,8 @@
 --   rings-there       every ring entry, where rule 15 is kept too;  entry-few  and each parcel has 1 to 8 rings
 --   vertices-there    every vertex, where rules 2, 3 and 16 are, and each parcel has at most 64
 --   parcel-sized      and each parcel keeps rules 1 to 3
-use mathlib.Core.Path.{_≡_, refl, sym, _∙_, ap}
-use mathlib.Core.Bool.{Bool, true, false, not, _||_}
+use mathlib.Core.Path.{_≡_}
+use mathlib.Core.Bool.{false, not}
 use mathlib.Core.List.{List}
 use Prim.Native.Nat.{ℕ, zero, suc, _+_, _*_, _≤_, _<_}
 use native.Mathlib.Omega.{arith}
@@ -26,7 +26,7 @@ use Rattle.sheet.proofs.Undamaged.{none-any}
 use Rattle.card.specs.Bytes.{u16At}
 use Rattle.card.specs.Layout.{parcelsAt, ringsAt, verticesAt, lengthOf}
 use Rattle.card.specs.Reading.{parcelCount, ringCount, vertexCount, countAt, firstRing, firstVertex, endsAt, numbersAt}
-use Rattle.card.specs.Load.{wrongHeader, wrongEntry, wrongParcels, wrongVertices, sizesNumber, cardNumber}
+use Rattle.card.specs.Load.{wrongHeader, wrongEntry, wrongParcels, wrongVertices, sizesNumber}
 use Rattle.card.specs.Steps.{RightParcels, RightVertices}
 use Rattle.card.proofs.Good.{past, or-false, length-ends, length-numbers, entry-rings}
 

@@ -25,7 +25,7 @@ use Rattle.card.specs.Bytes.{u16At}
 use Rattle.card.specs.Layout.{mostParcels, mostRings, mostVertices, parcelsAt, ringsAt, verticesAt, lengthOf}
 use Rattle.card.specs.Reading.{parcelCount, ringCount, vertexCount, slotAt, countAt, endsAt}
 use Rattle.card.specs.Load.{wrongHeader, wrongEntry, wrongParcels, sizesNumber, wrongVertices, shapeNumber, firstNumber, cardNumber}
-use Rattle.card.specs.Steps.{RightParcels, RightVertices}
+use Rattle.card.specs.Steps.{RightVertices}
 use Rattle.card.proofs.Good.{Good, length-ends, first-zero}
 
 or-left : (x y : Bool) → x ≡ true → x || y ≡ true

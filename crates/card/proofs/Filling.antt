@@ -2,7 +2,7 @@
 --   Filling f d n m i l      i of the stores are made, and l is there now
 --   filling-none, filling-more, filling-all    before the first turn, after one turn more, and after the last
 --   front     the part of the first n places, as it is lent
-use mathlib.Core.Path.{_≡_, sym, ap, _∙_}
+use mathlib.Core.Path.{_≡_, ap, _∙_}
 use mathlib.Core.List.{List}
 use Prim.Native.Nat.{ℕ, _+_, _-_, _<_, _≤_, min}
 use native.Mathlib.Omega.{arith}

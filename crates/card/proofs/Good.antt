@@ -1,24 +1,25 @@
 -- What a good card holds.
 --   good-tests       every test of a good card, taken apart
+--   next-slot        its slots rise
 --   card-accepts     every parcel of a good card keeps rules 1 to 7
 --   parcel-accepts   so whatever a good card puts into a slot is nothing or an accepted outline
 use mathlib.Core.Path.{_≡_, refl, sym, _∙_, ap}
-use mathlib.Core.Logic.{_↔_, _≢_}
+use mathlib.Core.Logic.{_≢_}
 use mathlib.Core.Bool.{Bool, true, false, not, _&&_, _||_}
 use mathlib.Core.List.{List}
-use Prim.Native.Nat.{ℕ, zero, suc, _+_, _-_, _*_, _≤_, _<_}
+use Prim.Native.Nat.{ℕ, _+_, _-_, _*_, _≤_, _<_}
 use native.Mathlib.Omega.{arith}
 use lib.Dec.{leb, ltb, eqb}
-use lib.ListN.{length, getD}
+use lib.ListN.{length}
 use lib.IntN.{ℤ}
-use borrow.Author.Tests.{ltb-true, ltb-false, eqb-true, eqb-false, eq-eqb, ne-eqb, le-ltb, not-false}
+use borrow.Author.Tests.{ltb-true, ltb-false, leb-false, eqb-true, eqb-false, eq-eqb, ne-eqb, lt-ltb, le-ltb, not-false}
 use Rattle.plane.specs.Choice.{pick}
 use Rattle.plane.specs.Folds.{anyTo, sumTo, firstOf}
 use Rattle.plane.proofs.Logic.{never, clash, is-false}
 use Rattle.plane.proofs.Folds.{any-means, first-none, first-below, first-passes}
 use Rattle.plane.proofs.Lists.{length-tab}
 use Rattle.outline.specs.declared.Checked.{Checked}
-use Rattle.outline.specs.declared.Checked.the-variants.{Accepted, Refused}
+use Rattle.outline.specs.declared.Checked.the-variants.{Accepted}
 use Rattle.outline.specs.Refusals.{Refusal, number, coordinate-range, vertex-repeated, edges-meet, not-clockwise}
 use Rattle.outline.specs.Region.{lastEnd}
 use Rattle.outline.specs.Check.{refusal, firstBreaking, shortAt, outsideAt, repeatedAt, tangledAt, turnedAt, shapeOf, checkOf, numberOf}
@@ -161,3 +162,11 @@ module _ (b : List ℕ) (good : Good b) (k : ℕ) (l : k < parcelCount b) where
         t .0,
         eq-eqb _ _ number-total,
       ) (shape-accepted (numbersAt b k) ends (good .shapes k l))
+
+-- slots rise from entry to entry
+pub next-slot : (b : List ℕ) → Good b → (k : ℕ) → k + 1 < parcelCount b → slotAt b k < slotAt b (k + 1)
+unfolding wrongEntry
+next-slot b good k l =
+    let w = or-false (ltb 0 (k + 1) && leb (slotAt b (k + 1)) (slotAt b (k + 1 - 1))) _ (good .entries (k + 1) l) .0 in
+    let e : k + 1 - 1 ≡ k = omega arith in
+    leb-false (slotAt b (k + 1)) (slotAt b k) (rw (lt-ltb 0 (k + 1) (omega arith), e) at w)

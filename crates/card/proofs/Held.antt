@@ -3,17 +3,15 @@
 --   held-left, held-right, held-joined    so do its parts;  held-append, join-held  and parts that follow each other make the whole
 --   u16-held, i32-held        the number whose bytes stand there is read there;  held-u16, held-i32  and the other way round
 use mathlib.Core.Path.{_≡_, refl, sym, _∙_, ap, subst}
-use mathlib.Core.List.{List, [], _∷_, _++_}
+use mathlib.Core.List.{List, _++_}
 use Prim.Native.Nat.{ℕ, zero, suc, _+_, _-_, _*_, _/_, _%_, _≤_, _<_}
 use native.Mathlib.Omega.{arith}
 use native.Mathlib.Decide.{decLt, ℕ-discrete}
-use lib.Dec.{ltb}
 use lib.ListN.{length, getD, length-append, List·getD-append}
 use lib.Seq.{getD-append-add}
 use lib.IntN.{ℤ, pos, negsuc}
 use lib.Signed.{mag}
 use borrow.Author.Tests.{lt-ltb, le-ltb}
-use Rattle.plane.specs.Choice.{pick}
 use Rattle.plane.specs.Folds.{sumTo}
 use Rattle.card.specs.Bytes.{u16At, u32At, i32At, signed, unsigned, u16Bytes, i32Bytes, joined}
 

@@ -3,6 +3,7 @@ pub mod Sound
 pub mod Held
 pub mod WrittenCard
 pub mod FirstNumber
+pub mod GoodMeans
 pub mod RoundTrip
 pub mod LoadedCard
 pub mod Placed

@@ -3,31 +3,28 @@
 --   one-form            the card of a good card's parcels is that card
 use mathlib.Core.Path.{_≡_, refl, sym, _∙_, ap, subst}
 use mathlib.Core.Logic.{_≢_}
-use mathlib.Core.Bool.{Bool, true, false, not, _&&_, _||_}
+use mathlib.Core.Bool.{Bool}
 use mathlib.Core.List.{List, [], _++_}
 use Prim.Native.Nat.{ℕ, zero, suc, _+_, _-_, _*_, _≤_, _<_}
 use native.Mathlib.Omega.{arith}
 use native.Mathlib.Decide.{decLt, ℕ-discrete}
 use native.Mathlib.Numerals.{add-one}
-use lib.Dec.{leb, ltb, eqb}
+use lib.Dec.{eqb}
 use lib.ListN.{length, getD}
 use lib.Seq.{ext-getD}
-use lib.IntN.{ℤ, pos}
-use borrow.Author.Tests.{ltb-true, ltb-false, lt-ltb, le-ltb, leb-false, eqb-true, eqb-false, not-false}
-use Rattle.plane.specs.Choice.{pick}
+use lib.IntN.{pos}
+use borrow.Author.Tests.{lt-ltb, le-ltb, eqb-true, eqb-false}
 use Rattle.plane.specs.Folds.{sumTo, firstOf}
-use Rattle.plane.proofs.Logic.{clash}
 use Rattle.plane.proofs.Folds.{first-below, first-passes}
-use Rattle.plane.proofs.Lists.{length-tab, getD-tab}
+use Rattle.plane.proofs.Lists.{getD-tab}
 use Rattle.outline.specs.Region.{lastEnd}
 use Rattle.sheet.specs.Layout.{Parcel, nothing, outline, slots}
-use Rattle.card.specs.Bytes.{u16At, i32At, u16Bytes, i32Bytes, joined}
-use Rattle.card.specs.Layout.{parcelsAt, ringsAt, verticesAt, lengthOf}
+use Rattle.card.specs.Bytes.{u16At, i32At, u16Bytes, i32Bytes}
+use Rattle.card.specs.Layout.{parcelsAt, ringsAt, verticesAt}
 use Rattle.card.specs.Reading.{parcelCount, ringCount, vertexCount, slotAt, countAt, firstRing, firstVertex, entryOf, parcelIn, endsAt, numbersAt}
-use Rattle.card.specs.Load.{wrongHeader, wrongEntry, cardNumber}
 use Rattle.card.specs.Write.{stands, ringsOf, verticesOf, entryBytes, endBytes, vertexBytes, parcelTotal, ringTotal, vertexTotal, cardOf}
 use Rattle.card.proofs.Held.{Held, held-append, join-held, held-u16, held-i32}
-use Rattle.card.proofs.Good.{Good, or-false, slot-small, ring-total}
+use Rattle.card.proofs.Good.{Good, next-slot, slot-small, ring-total}
 use Rattle.card.proofs.Bounds.{Header, header-means}
 use Rattle.card.proofs.WrittenCard.{before, E, N, X, sum-const, entries-to, ends-to, vertices-to as bytes-to, entries-length, ends-length, written-length}
 
@@ -42,18 +39,11 @@ module _ (b : List ℕ) (good : Good b) where
   P = parcelCount b
 
   -- slots rise from entry to entry
-  next-slot : (k : ℕ) → k + 1 < P → slotAt b k < slotAt b (k + 1)
-  unfolding wrongEntry
-  next-slot k l =
-      let w = or-false (ltb 0 (k + 1) && leb (slotAt b (k + 1)) (slotAt b (k + 1 - 1))) _ (good .entries (k + 1) l) .0 in
-      let e : k + 1 - 1 ≡ k = omega arith in
-      leb-false (slotAt b (k + 1)) (slotAt b k) (rw (lt-ltb 0 (k + 1) (omega arith), e) at w)
-
   later-slot : (j d : ℕ) → j + suc d < P → slotAt b j < slotAt b (j + suc d)
-  later-slot j zero h = next-slot j h
+  later-slot j zero h = next-slot b good j h
   later-slot j (suc d) h =
       let e : j + suc (suc d) ≡ j + suc d + 1 = omega arith in
-      rw e (omega (arith, later-slot j d (omega arith), next-slot (j + suc d) (omega arith)))
+      rw e (omega (arith, later-slot j d (omega arith), next-slot b good (j + suc d) (omega arith)))
 
   pub slots-rise : (j k : ℕ) → j < k → k < P → slotAt b j < slotAt b k
   slots-rise j k l h =

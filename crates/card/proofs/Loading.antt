@@ -14,14 +14,11 @@ use lib.Dec.{ltb, eqb}
 use lib.ListN.{length}
 use borrow.Author.Tests.{ltb-true, lt-ltb, le-ltb, eqb-true, eq-eqb, ne-eqb}
 use Rattle.plane.specs.Choice.{pick}
-use Rattle.plane.specs.Folds.{firstOf}
 use Rattle.plane.proofs.Folds.{first-hit, first-passes}
-use Rattle.outline.specs.declared.Checked.the-variants.{Accepted}
-use Rattle.outline.specs.Check.{checkOf, numberOf}
 use Rattle.outline.proofs.Check.{accepted-means}
-use Rattle.sheet.specs.Layout.{Sheet, Parcel, nothing, outline, layout, slots}
-use Rattle.sheet.specs.Slots.{damaged, wrongLists}
-use Rattle.sheet.specs.Changes.{withParcel, putNumber, put, clearNumber, clear}
+use Rattle.sheet.specs.Layout.{Sheet, Parcel, nothing, outline, layout}
+use Rattle.sheet.specs.Slots.{wrongLists}
+use Rattle.sheet.specs.Changes.{putNumber, put, clearNumber, clear}
 use Rattle.sheet.specs.Steps.{Stands}
 use Rattle.sheet.proofs.Slots.{right-lists, lists-right}
 use Rattle.sheet.proofs.Standing.{came, layout-lists, layout-undamaged, layout-with, layout-same}

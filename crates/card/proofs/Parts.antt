@@ -3,7 +3,7 @@
 --   entry-none, entry-some, end-bytes, vertex-bytes     the bytes of what stands in a slot, by its record and its room
 --   Running, running-none, running-more, running-room, running-all     a loop that stores f 0, f 1 .. at a running place
 --   totals-are      the totals, by the records
-use mathlib.Core.Path.{_≡_, refl, sym, _∙_, ap, ap₂}
+use mathlib.Core.Path.{_≡_, refl, sym, _∙_, ap}
 use mathlib.Core.Logic.{_≢_}
 use mathlib.Core.Bool.{Bool, true, false}
 use mathlib.Core.List.{List, [], _++_}
@@ -15,10 +15,9 @@ use lib.IntN.{ℤ, pos}
 use lib.ListN.{length, getD, length-append}
 use borrow.Author.Tests.{eqb-true, eq-eqb, ne-eqb}
 use Rattle.plane.specs.Choice.{pick}
-use Rattle.plane.specs.Folds.{sumTo}
 use Rattle.plane.proofs.Folds.{sum-same}
-use Rattle.outline.specs.Region.{mostRings, mostVertices, lastEnd}
-use Rattle.sheet.specs.Layout.{Sheet, sheetOf, Parcel, nothing, outline, slots, room, record-length, records-length}
+use Rattle.outline.specs.Region.{lastEnd}
+use Rattle.sheet.specs.Layout.{Sheet, sheetOf, nothing, outline, slots, room, record-length}
 use Rattle.sheet.specs.Slots.{countOf, endsOf, numbersOf, parcelAt}
 use Rattle.sheet.specs.Steps.{Whole, slotsOf}
 use Rattle.sheet.proofs.Blocks.{part-length}

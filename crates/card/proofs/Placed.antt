@@ -5,10 +5,10 @@
 --   Placing, placing-none, placing-more, placing-all    a loop that stores f 0, f 1 .. one behind the other
 use mathlib.Core.Path.{_≡_, refl, sym, _∙_, ap}
 use mathlib.Core.List.{List, [], _∷_, _++_}
-use Prim.Native.Nat.{ℕ, zero, suc, _+_, _*_, _/_, _%_, _≤_, _<_}
+use Prim.Native.Nat.{ℕ, suc, _+_, _*_, _/_, _%_, _≤_, _<_}
 use native.Mathlib.Omega.{arith}
 use native.Mathlib.Numerals.{add-one}
-use lib.ListN.{length, getD, set, drop, length-set, length-append}
+use lib.ListN.{length, set, drop, length-set}
 use Rattle.plane.specs.Folds.{sumTo}
 use Rattle.card.specs.Bytes.{u16Bytes, joined}
 use Rattle.card.specs.Steps.{placed}

@@ -4,29 +4,29 @@
 --   round-trip        so loading it lays out the same parcels
 use mathlib.Core.Path.{_≡_, refl, sym, _∙_, ap}
 use mathlib.Core.Logic.{_≢_}
-use mathlib.Core.Bool.{Bool, true, false, not, _&&_, _||_}
 use mathlib.Core.List.{List}
-use Prim.Native.Nat.{ℕ, zero, suc, _+_, _-_, _*_, _≤_, _<_}
+use Prim.Native.Nat.{ℕ, zero, suc, _+_, _-_, _≤_, _<_}
 use native.Mathlib.Omega.{arith}
-use native.Mathlib.Decide.{decLt, ℕ-discrete}
-use lib.Dec.{leb, ltb, eqb}
-use lib.ListN.{length, getD}
-use lib.IntN.{ℤ, pos}
-use borrow.Author.Tests.{eq-eqb, ne-eqb, lt-ltb, le-ltb, lt-leb}
+use native.Mathlib.Decide.{decLt}
+use lib.Dec.{ltb, eqb}
+use lib.ListN.{length}
+use lib.IntN.{ℤ}
+use borrow.Author.Tests.{eq-eqb, ne-eqb, lt-ltb, le-ltb}
 use Rattle.plane.specs.Choice.{pick}
-use Rattle.plane.specs.Folds.{sumTo, firstOf}
-use Rattle.plane.proofs.Folds.{first-hit, first-none, any-none}
+use Rattle.plane.specs.Folds.{sumTo}
+use Rattle.plane.proofs.Folds.{first-hit, first-none}
 use Rattle.sheet.specs.Layout.{Parcel, nothing, outline, slots}
 use Rattle.outline.specs.declared.Checked.the-variants.{Accepted}
 use Rattle.outline.specs.Region.{lastEnd}
-use Rattle.outline.specs.Check.{shortAt, shapeOf, checkOf, numberOf}
-use Rattle.outline.proofs.Fits.{Fits, accepted-fits, accepted-shape}
-use Rattle.card.specs.Bytes.{u16At}
-use Rattle.card.specs.Layout.{parcelsAt, ringsAt, verticesAt, lengthOf}
-use Rattle.card.specs.Reading.{parcelCount, ringCount, vertexCount, slotAt, countAt, firstRing, firstVertex, entryOf, parcelIn, endsAt, numbersAt}
-use Rattle.card.specs.Load.{wrongHeader, wrongEntry, wrongParcels, wrongVertices, sizesNumber, shapeNumber, firstNumber, cardNumber}
+use Rattle.outline.specs.Rules.{KeepsRules}
+use Rattle.outline.specs.Check.{checkOf}
+use Rattle.outline.proofs.Check.{accepted-means}
+use Rattle.outline.proofs.Fits.{Fits, accepted-fits}
+use Rattle.card.specs.Layout.{parcelsAt, ringsAt, verticesAt}
+use Rattle.card.specs.Reading.{parcelCount, slotAt, countAt, firstRing, firstVertex, entryOf, parcelIn, endsAt, numbersAt}
+use Rattle.card.specs.Load.{cardNumber}
 use Rattle.card.specs.Write.{stands, parcelTotal, ringTotal, vertexTotal, cardOf}
-use Rattle.card.proofs.FirstNumber.{none-first}
+use Rattle.card.proofs.GoodMeans.{good-means}
 use Rattle.card.proofs.Held.{u16-held}
 use Rattle.card.proofs.Sound.{Sound}
 use Rattle.card.proofs.WrittenCard.{B, before, parts, written-length, parcels-le, rings-le, vertices-le, parcels-read, rings-read, vertices-read, slot-read, count-read, rings-before, ends-read, vertices-before, numbers-read}
@@ -125,29 +125,7 @@ module _ (st : ℕ → Parcel) where
               ends-read st sound i hi xs ends e,
             ) refl
 
-    -- ---- the tests of the card's own rules
-    header-right : wrongHeader (cardOf st) ≡ false
-    unfolding wrongHeader
-    header-right =
-        let p = parcels-read st sound in
-        let r = rings-read st sound in
-        let v = vertices-read st sound in
-        let lp = parcels-le st sound in
-        let lr = rings-le st sound in
-        let lv = vertices-le st sound in
-        let l = written-length st in
-        let a : length (B st) ≡ lengthOf (parcelCount (B st)) (ringCount (B st)) (vertexCount (B st)) = omega (arith, l, p, r, v) in
-        let o1 : u16At (B st) 6 ≡ parcelsAt = u16-held (B st) 6 parcelsAt (omega arith) (parts st .first) in
-        let o2 : u16At (B st) 8 ≡ ringsAt (parcelCount (B st)) = u16-held (B st) 8 (ringsAt (parcelTotal st)) (omega (arith, lp)) (parts st .second) ∙ ap ringsAt (sym p) in
-        let o3 : u16At (B st) 10 ≡ verticesAt (parcelCount (B st)) (ringCount (B st)) =
-        u16-held (B st) 10 (verticesAt (parcelTotal st) (ringTotal st)) (omega (arith, lp, lr)) (parts st .third) ∙ rw (p, r) refl in
-        eight (le-ltb (length (B st)) 12 (omega (arith, l))) (le-ltb 32 (parcelCount (B st)) (omega (arith, p, lp))) (le-ltb 256 (ringCount (B st)) (omega (arith, r, lr)))
-        (le-ltb 2048 (vertexCount (B st)) (omega (arith, v, lv))) (ap not (eq-eqb _ _ o1)) (ap not (eq-eqb _ _ o2)) (ap not (eq-eqb _ _ o3)) (ap not (eq-eqb _ _ a))
-      where
-        eight : {x1 x2 x3 x4 x5 x6 x7 x8 : Bool} → x1 ≡ false → x2 ≡ false → x3 ≡ false → x4 ≡ false → x5 ≡ false → x6 ≡ false → x7 ≡ false → x8 ≡ false
-            → x1 || (x2 || (x3 || (x4 || (x5 || (x6 || (x7 || x8)))))) ≡ false
-        eight a b c d e f g h = rw (a, b, c, d, e, f, g, h) refl
-
+    -- ---- the card is a good one
     module _ (k : ℕ) (l : k < parcelCount (B st)) where
       abbrev here : SlotOf slots k
       here = entry-slot k l
@@ -167,13 +145,8 @@ module _ (st : ℕ → Parcel) where
       fits-here : Fits (here .xs) (here .ends)
       fits-here = accepted-fits (here .xs) (here .ends) accepted-here
 
-      sizes-here : sizesNumber (B st) k ≡ 0
-      unfolding sizesNumber
-      sizes-here = rw (ends-here, any-none (shortAt (here .ends)) (length (here .ends)) (fits-here .none-short), le-ltb 64 (lastEnd (here .ends)) (fits-here .few-vertices)) refl
-
-      shape-here : shapeNumber (B st) k ≡ 0
-      unfolding shapeNumber
-      shape-here = rw (ends-here, numbers-here) (ap numberOf (accepted-shape (here .xs) (here .ends) accepted-here))
+      keeps-here : KeepsRules (numbersAt (B st) k) (endsAt (B st) k)
+      keeps-here = rw (numbers-here, ends-here) (accepted-means (here .xs) (here .ends) .0 accepted-here)
 
     rising : (k : ℕ) → k + 1 < parcelCount (B st) → slotAt (B st) k < slotAt (B st) (k + 1)
     rising k l =
@@ -187,23 +160,6 @@ module _ (st : ℕ → Parcel) where
               absurd (omega (arith, rw d at (before-le (y .slot) (x .slot - y .slot)), x .place, y .place))
         ]
 
-    entry-right : (k : ℕ) → k < parcelCount (B st) → wrongEntry (B st) k ≡ false
-    unfolding wrongEntry
-    entry-right k l =
-        let f = fits-here k l in
-        four (first k l) (le-ltb 31 (slotAt (B st) k) (omega (arith, named k l, here k l .low))) (ne-eqb (countAt (B st) k) 0 (omega (arith, count-here k l, f .some-ring)))
-        (le-ltb 8 (countAt (B st) k) (omega (arith, count-here k l, f .few-rings)))
-      where
-        first : (k : ℕ) → k < parcelCount (B st) → ltb 0 k && leb (slotAt (B st) k) (slotAt (B st) (k - 1)) ≡ false
-        first zero l = refl
-        first (suc k) l =
-            let e : suc k - 1 ≡ k = omega arith in
-            let f : k + 1 ≡ suc k = omega arith in
-            rw (lt-ltb 0 (suc k) (omega arith), e, lt-leb (slotAt (B st) (suc k)) (slotAt (B st) k) (rw f at (rising k (omega arith)))) refl
-
-        four : {x1 x2 x3 x4 : Bool} → x1 ≡ false → x2 ≡ false → x3 ≡ false → x4 ≡ false → x1 || (x2 || (x3 || x4)) ≡ false
-        four a b c d = rw (a, b, c, d) refl
-
     rings-all : sumTo (countAt (B st)) (before st slots) ≡ ringTotal st
     unfolding firstRing ringTotal
     rings-all = rings-before st sound slots (omega arith)
@@ -212,18 +168,27 @@ module _ (st : ℕ → Parcel) where
     unfolding firstVertex vertexTotal
     vertices-all = vertices-before st sound slots (omega arith)
 
-    parcels-right : wrongParcels (cardOf st) ≡ false
-    unfolding wrongParcels
-    parcels-right = rw (any-none (wrongEntry (B st)) (parcelCount (B st)) entry-right, eq-eqb _ _ total) refl
-      where
-        total : sumTo (countAt (B st)) (parcelCount (B st)) ≡ ringCount (B st)
-        total = ap (sumTo (countAt (B st))) total-is ∙ rings-all ∙ sym (rings-read st sound)
-
-    vertices-right : wrongVertices (cardOf st) ≡ false
-    unfolding wrongVertices
-    vertices-right = ap not (eq-eqb _ _ (ap (sumTo (λ k. lastEnd (endsAt (B st) k))) total-is ∙ vertices-all ∙ sym (vertices-read st sound)))
-
     pub written-good : cardNumber (cardOf st) ≡ 0
-    unfolding cardNumber
     written-good =
-        rw (header-right, parcels-right, none-first (sizesNumber (B st)) (parcelCount (B st)) sizes-here, vertices-right, none-first (shapeNumber (B st)) (parcelCount (B st)) shape-here) refl
+        let p = parcels-read st sound in
+        let r = rings-read st sound in
+        let v = vertices-read st sound in
+        let lp = parcels-le st sound in
+        let lr = rings-le st sound in
+        good-means (B st) .1
+        (record {
+          few-parcels = omega (arith, p, lp);
+          few-rings = omega (arith, r, lr);
+          few-vertices = omega (arith, v, vertices-le st sound);
+          parcels-offset = u16-held (B st) 6 parcelsAt (omega arith) (parts st .first);
+          rings-offset = u16-held (B st) 8 (ringsAt (parcelTotal st)) (omega (arith, lp)) (parts st .second) ∙ ap ringsAt (sym p);
+          vertices-offset = u16-held (B st) 10 (verticesAt (parcelTotal st) (ringTotal st)) (omega (arith, lp, lr)) (parts st .third) ∙ rw (p, r) refl;
+          whole-length = omega (arith, written-length st, p, r, v);
+          slots-rise = rising;
+          slots-low = λ k l. omega (arith, named k l, here k l .low);
+          some-rings = λ k l. omega (arith, count-here k l, fits-here k l .some-ring);
+          few-of-each = λ k l. omega (arith, count-here k l, fits-here k l .few-rings);
+          rings-add = ap (sumTo (countAt (B st))) total-is ∙ rings-all ∙ sym r;
+          vertices-add = ap (sumTo (λ k. lastEnd (endsAt (B st) k))) total-is ∙ vertices-all ∙ sym v;
+          parcels-keep = keeps-here;
+        })

@@ -4,15 +4,13 @@
 --   card-steps      the header, the entries, the ring ends and the vertices, stored one after the other: the card
 --   write-refused-lists, write-refused-damaged, write-refused-short, write-done     what writing answers, and the buffer at exit
 use mathlib.Core.Path.{_≡_, refl, sym, _∙_, ap}
-use mathlib.Core.Bool.{Bool, true, false}
+use mathlib.Core.Bool.{true, false}
 use mathlib.Core.List.{List, [], _∷_, _++_}
-use Prim.Native.Nat.{ℕ, _+_, _*_, _≤_, _<_}
+use Prim.Native.Nat.{ℕ, _+_, _≤_, _<_}
 use native.Mathlib.Omega.{arith}
-use lib.Dec.{ltb, eqb}
 use lib.IntN.{ℤ}
-use lib.ListN.{length, drop}
+use lib.ListN.{length}
 use borrow.Author.Tests.{lt-ltb, le-ltb}
-use Rattle.plane.specs.Folds.{sumTo}
 use Rattle.plane.proofs.Folds.{sum-le}
 use Rattle.outline.specs.Region.{lastEnd}
 use Rattle.sheet.specs.Layout.{Sheet, sheetOf, Parcel, slots}

@@ -4,22 +4,16 @@
 --   parcels-read ..             its header's counts
 --   slot-read, count-read       the entry of a parcel;  ends-read, numbers-read  its ring ends and coordinates
 use mathlib.Core.Path.{_≡_, refl, sym, _∙_, ap, subst}
-use mathlib.Core.Logic.{_≢_}
-use mathlib.Core.Bool.{Bool, true, false, not, _&&_, _||_}
-use mathlib.Core.List.{List, [], _∷_, _++_}
+use mathlib.Core.Bool.{true}
+use mathlib.Core.List.{List, _++_}
 use Prim.Native.Nat.{ℕ, zero, suc, _+_, _-_, _*_, _/_, _%_, _≤_, _<_}
 use native.Mathlib.Omega.{arith}
-use native.Mathlib.Decide.{decLt, decLe, ℕ-discrete}
+use native.Mathlib.Decide.{ℕ-discrete}
 use native.Mathlib.Numerals.{add-one}
-use lib.Dec.{leb, ltb, eqb}
 use lib.ListN.{length, getD, length-append}
-use lib.Seq.{ext-getD}
 use lib.IntN.{ℤ, pos}
-use lib.Signed.{mag}
-use Rattle.plane.specs.Choice.{pick}
 use Rattle.plane.specs.Place.{inRange}
-use Rattle.plane.specs.Folds.{anyTo, sumTo, firstOf}
-use Rattle.plane.specs.Lists.{tab}
+use Rattle.plane.specs.Folds.{sumTo}
 use Rattle.plane.proofs.Folds.{sum-same, sum-le}
 use Rattle.plane.proofs.Place.{mag-in}
 use Rattle.plane.proofs.Lists.{tab-all}
@@ -33,7 +27,7 @@ use Rattle.relation.proofs.Relation.{region-in-range}
 use Rattle.sheet.specs.Layout.{Parcel, nothing, outline, slots}
 use Rattle.card.specs.Bytes.{u16At, i32At, u16Bytes, i32Bytes, joined}
 use Rattle.card.specs.Layout.{parcelsAt, ringsAt, verticesAt, lengthOf}
-use Rattle.card.specs.Reading.{parcelCount, ringCount, vertexCount, slotAt, countAt, firstRing, endsAt, firstVertex, numbersAt, entryOf, parcelIn}
+use Rattle.card.specs.Reading.{parcelCount, ringCount, vertexCount, slotAt, countAt, firstRing, endsAt, firstVertex, numbersAt}
 use Rattle.card.specs.Write.{stands, ringsOf, verticesOf, entryBytes, endBytes, vertexBytes, parcelTotal, ringTotal, vertexTotal, cardOf}
 use Rattle.card.proofs.Held.{Held, held-whole, held-left, held-right, held-joined, length-joined, u16-held, i32-held}
 use Rattle.card.proofs.Sound.{Sound}

@@ -7,7 +7,7 @@
 --   loadNumber s b, load s b     what loading the card b into the sheet s answers, and the lists at exit
 use mathlib.Core.Bool.{Bool, not, _&&_, _||_}
 use mathlib.Core.List.{List}
-use Prim.Native.Nat.{ℕ, _+_, _-_, _*_}
+use Prim.Native.Nat.{ℕ, _-_}
 use lib.Dec.{leb, ltb, eqb}
 use lib.ListN.{length}
 use Rattle.plane.specs.Choice.{pick}

@@ -9,7 +9,7 @@ use native.Mathlib.Omega.{arith}
 use lib.ListN.{length, getD, drop}
 use borrow.Author.Tests.{lt-ltb, le-ltb, eq-eqb, ne-eqb}
 use Rattle.pair.specs.declared.Answer.{Answer}
-use Rattle.card.specs.Bytes.{u16Bytes, joined}
+use Rattle.card.specs.Bytes.{u16Bytes}
 use Rattle.card.specs.Reading.{parcelCount}
 use Rattle.card.specs.Load.{cardNumber}
 use Rattle.card.specs.Steps.{placed, wordBytes}

@@ -1,5 +1,5 @@
 use Rattle.card.proofs.Loading.{cleared, put-loaded, loaded-all, same-lists}
-use mathlib.Core.Path.{_≡_, sym, _∙_, ap}
+use mathlib.Core.Path.{_≡_, _∙_, ap}
 use Prim.Native.Nat.{ℕ, _≤_, _-_}
 use native.Mathlib.Omega.{arith}
 use lib.ListN.{length}

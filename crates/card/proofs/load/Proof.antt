@@ -1,8 +1,4 @@
-use mathlib.Core.Path.{_≡_, sym, _∙_}
-use mathlib.Core.Bool.{false}
-use Rattle.sheet.specs.Layout.{sheetOf}
-use Rattle.sheet.specs.Slots.{wrongLists}
-use Rattle.card.specs.Load.{cardNumber}
+use mathlib.Core.Path.{sym, _∙_}
 use Rattle.card.proofs.Loading.{load-refused-lists, load-refused-card, load-done}
 use borrow.Author.Needs.{needs}
 use Rattle.card.proofs.load.Statement.{statement}

@@ -1,11 +1,10 @@
-use mathlib.Core.Path.{_≡_, refl, _∙_, ap, ap₂}
+use mathlib.Core.Path.{_≡_, refl, _∙_}
 use mathlib.Core.List.{List}
 use Prim.Native.Nat.{ℕ}
 use native.Mathlib.Omega.{arith}
 use lib.IntN.{ℤ}
 use Rattle.sheet.specs.Layout.{Sheet, sheetOf}
 use Rattle.sheet.specs.Changes.{put}
-use Rattle.card.specs.Reading.{slotAt}
 use Rattle.card.specs.Steps.{RightVertices}
 use Rattle.card.proofs.Good.{good-tests}
 use Rattle.card.proofs.Bounds.{VertexPart, entry-there, entry-few, vertices-there}

@@ -1,12 +1,11 @@
 use mathlib.Core.Path.{_≡_, sym, _∙_, ap}
 use mathlib.Core.Bool.{false}
-use mathlib.Core.List.{List}
-use Prim.Native.Nat.{ℕ, _≤_}
+use Prim.Native.Nat.{_≤_}
 use native.Mathlib.Omega.{arith}
 use lib.ListN.{length}
 use Rattle.sheet.specs.Layout.{sheetOf}
 use Rattle.sheet.specs.Slots.{parcelAt, damaged, wrongLists}
-use Rattle.sheet.specs.Steps.{RightLists, slotsOf}
+use Rattle.sheet.specs.Steps.{RightLists}
 use Rattle.sheet.proofs.Slots.{lists-right}
 use Rattle.sheet.proofs.Steps.{damage-alone}
 use Rattle.card.specs.declared.Totals.{Totals}

@@ -3,7 +3,6 @@ use mathlib.Core.List.{List}
 use Prim.Native.Nat.{ℕ}
 use native.Mathlib.Omega.{arith}
 use lib.IntN.{ℤ}
-use Rattle.pair.specs.declared.Answer.{Answer}
 use Rattle.pair.specs.Answer.{pairOf}
 use Rattle.card.specs.Steps.{RightVertices}
 use Rattle.host.specs.Report.{pairIn}

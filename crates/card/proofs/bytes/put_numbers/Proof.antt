@@ -1,11 +1,11 @@
-use mathlib.Core.Path.{_≡_, refl, _∙_, ap}
+use mathlib.Core.Path.{refl, _∙_, ap}
 use Prim.Native.Nat.{_+_, _*_, _-_}
 use native.Mathlib.Omega.{arith}
 use lib.IntN.{ℤ, pos}
 use lib.ListN.{length, getD}
 use mir.Facts.{toZ-ofZ}
 use mir.Syntax.{w32}
-use Rattle.card.specs.Bytes.{i32Bytes, joined}
+use Rattle.card.specs.Bytes.{i32Bytes}
 use Rattle.card.specs.Steps.{placed}
 use Rattle.card.proofs.Placed.{Placing, placing-none, placing-more, placing-all, length-same}
 use borrow.Author.Needs.{needs}

@@ -1,9 +1,8 @@
-use mathlib.Core.Path.{_≡_, refl, _∙_}
+use mathlib.Core.Path.{refl}
 use Prim.Native.Nat.{_+_, _*_, _-_}
 use native.Mathlib.Omega.{arith}
 use lib.ListN.{length, getD}
-use Rattle.card.specs.Bytes.{u16Bytes, joined}
-use Rattle.card.specs.Steps.{wordBytes}
+use Rattle.card.specs.Bytes.{u16Bytes}
 use Rattle.card.proofs.Placed.{Placing, placing-none, placing-more, placing-all, length-same}
 use borrow.Author.Needs.{needs}
 use Rattle.card.proofs.bytes.put_words.Statement.{statement}

@@ -1,9 +1,6 @@
 use Rattle.card.proofs.Sums.{Summing, summing-none, summing-more, summing-all}
-use mathlib.Core.Path.{_≡_, refl, sym, _∙_, ap}
-use Prim.Native.Nat.{_+_, _*_, _≤_, _-_}
+use Prim.Native.Nat.{_+_, _*_, _-_}
 use native.Mathlib.Omega.{arith}
-use Rattle.plane.specs.Folds.{sumTo}
-use Rattle.plane.proofs.Folds.{sum-step}
 use Rattle.card.specs.Layout.{parcelsAt}
 use Rattle.card.specs.Reading.{countAt, firstRing}
 use Rattle.card.proofs.Bounds.{header-means, entry-there, low-word}

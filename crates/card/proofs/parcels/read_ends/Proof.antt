@@ -1,12 +1,12 @@
-use mathlib.Core.Path.{_≡_, refl, sym, _∙_, ap}
+use mathlib.Core.Path.{sym, _∙_, ap}
 use mathlib.Core.List.{List}
-use Prim.Native.Nat.{ℕ, _+_, _*_, _≤_, _<_, _-_}
+use Prim.Native.Nat.{ℕ, _+_, _*_, _≤_, _-_}
 use native.Mathlib.Omega.{arith}
-use lib.ListN.{length, getD, take}
+use lib.ListN.{length}
 use Rattle.plane.specs.Lists.{tab}
 use Rattle.card.specs.Bytes.{u16At}
 use Rattle.card.specs.Layout.{ringsAt}
-use Rattle.card.specs.Reading.{parcelCount, countAt, firstRing, endsAt}
+use Rattle.card.specs.Reading.{parcelCount, firstRing, endsAt}
 use Rattle.card.proofs.Bounds.{RingPart, entry-there, rings-there}
 use Rattle.card.proofs.Filling.{Filling, filling-none, filling-more, filling-all}
 use borrow.Author.Needs.{needs}

@@ -1,8 +1,7 @@
 use mathlib.Core.Path.{ap}
-use mathlib.Core.List.{List}
 use Rattle.card.specs.declared.Totals.{Totals}
 use Rattle.card.proofs.Parts.{stood-le}
-use mathlib.Core.Path.{_≡_, refl, _∙_}
+use mathlib.Core.Path.{_≡_, _∙_}
 use mathlib.Core.List.{[]}
 use Prim.Native.Nat.{ℕ, _-_}
 use native.Mathlib.Omega.{arith}

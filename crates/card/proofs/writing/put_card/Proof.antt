@@ -1,7 +1,5 @@
-use mathlib.Core.Path.{_≡_, sym, _∙_, ap}
-use Prim.Native.Nat.{ℕ, _≤_}
+use mathlib.Core.Path.{ap}
 use native.Mathlib.Omega.{arith}
-use lib.ListN.{length}
 use Rattle.card.specs.declared.Totals.{Totals}
 use Rattle.card.proofs.WholeCard.{totals-le, card-room, card-steps}
 use borrow.Author.Needs.{needs}

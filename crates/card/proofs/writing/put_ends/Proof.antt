@@ -9,7 +9,7 @@ use Rattle.sheet.specs.Slots.{parcelAt}
 use Rattle.sheet.specs.Steps.{slotsOf}
 use Rattle.card.specs.Write.{endBytes}
 use Rattle.card.specs.Steps.{placed, wordBytes}
-use Rattle.card.proofs.Parts.{Running, running-none, running-room, running-more, running-all, end-bytes}
+use Rattle.card.proofs.Parts.{Running, running-none, running-room, running-more, running-all}
 use borrow.Author.Needs.{needs}
 use Rattle.card.proofs.writing.put_ends.Statement.{statement}
 use Rattle.card.proofs.writing.put_ends.Tie as tie

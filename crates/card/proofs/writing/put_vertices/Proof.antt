@@ -14,7 +14,7 @@ use Rattle.sheet.specs.Layout.{slots}
 use Rattle.sheet.specs.Slots.{parcelAt}
 use Rattle.sheet.specs.Steps.{slotsOf}
 use Rattle.card.specs.Write.{vertexBytes}
-use Rattle.card.proofs.Parts.{Running, running-none, running-room, running-more, running-all, vertex-bytes}
+use Rattle.card.proofs.Parts.{Running, running-none, running-room, running-more, running-all}
 use borrow.Author.Needs.{needs}
 use Rattle.card.proofs.writing.put_vertices.Statement.{statement}
 use Rattle.card.proofs.writing.put_vertices.Tie as tie
