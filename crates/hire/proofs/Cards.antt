@@ -1,14 +1,12 @@
 -- Cards and the sheet of a run.
 --   write-then-load    the card of what stands after a run, loaded into any sheet, gives the run's sheet again
 --   load-then-write    writing what a good card laid out gives the card's bytes again
-use mathlib.Core.Path.{_≡_, refl, sym, _∙_, ap}
-use mathlib.Core.Bool.{Bool, true, false}
+use mathlib.Core.Path.{_≡_, sym, _∙_, ap}
+use mathlib.Core.Bool.{false}
 use mathlib.Core.List.{List}
 use Prim.Native.Nat.{ℕ, _<_}
-use lib.Dec.{eqb}
 use lib.ListN.{getD}
 use borrow.Author.Tests.{eq-eqb}
-use Rattle.plane.specs.Choice.{pick}
 use Rattle.sheet.specs.Layout.{Sheet, Parcel, layout, slots}
 use Rattle.sheet.specs.Slots.{parcelAt, wrongLists}
 use Rattle.card.specs.Reading.{parcelIn}

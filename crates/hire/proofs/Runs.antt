@@ -3,15 +3,15 @@
 --   run-fresh         and equals a fresh one into which what stands is put once each in rising slot order
 --   standing-means    what stands is what was last accepted in its slot and not taken out since
 use mathlib.Core.Path.{_≡_, refl, sym, _∙_, ap}
-use mathlib.Core.Logic.{_↔_, _≢_}
+use mathlib.Core.Logic.{_↔_}
 use mathlib.Core.Bool.{Bool, true, false, _&&_}
 use mathlib.Core.List.{List, [], _∷_}
-use Prim.Native.Nat.{ℕ, zero, suc, _+_, _≤_, _<_}
+use Prim.Native.Nat.{ℕ, zero, suc, _≤_, _<_}
 use native.Mathlib.Omega.{arith}
 use native.Mathlib.Decide.{ℕ-discrete, decLt}
 use lib.Dec.{ltb, eqb}
 use lib.IntN.{ℤ}
-use borrow.Author.Tests.{eq-eqb, ne-eqb, eqb-true, eqb-false, lt-ltb, le-ltb, ltb-true, ltb-false}
+use borrow.Author.Tests.{eq-eqb, ne-eqb, eqb-true, eqb-false, lt-ltb, le-ltb, ltb-true}
 use Rattle.plane.specs.Choice.{pick}
 use Rattle.plane.specs.Folds.{turns}
 use Rattle.plane.proofs.Logic.{never, clash, is-false, and-means}
@@ -20,13 +20,13 @@ use Rattle.outline.specs.declared.Checked.the-variants.{Accepted, Refused}
 use Rattle.outline.specs.Check.{checkOf, numberOf}
 use Rattle.outline.proofs.Check.{accepted-means, refused-means}
 use Rattle.sheet.specs.Layout.{Sheet, Parcel, nothing, outline, layout, slots, recordAt}
-use Rattle.sheet.specs.Slots.{countOf, damaged, wrongLists}
+use Rattle.sheet.specs.Slots.{countOf}
 use Rattle.sheet.specs.Changes as Changes
 use Rattle.sheet.specs.Changes.{putNumber, removeNumber, clearNumber, withParcel}
 use Rattle.card.specs.Reading.{parcelIn}
 use Rattle.card.specs.Load as Load
 use Rattle.card.specs.Load.{cardNumber, loadNumber}
-use Rattle.hire.specs.Runs.{Call, put, remove, clear, load, afterCall, afterRun, AcceptedPut, Spares, put-elsewhere, put-refused, removed-elsewhere, load-refused, Stands, just-put, just-loaded, still, instead, standing, putParcel, fresh}
+use Rattle.hire.specs.Runs.{Call, put, remove, clear, load, afterRun, AcceptedPut, Spares, put-elsewhere, put-refused, removed-elsewhere, load-refused, Stands, just-put, just-loaded, still, instead, standing, putParcel, fresh}
 use Rattle.outline.proofs.Fits.{accepted-fits}
 use Rattle.card.proofs.Sound.{Sound, sound-card}
 use Rattle.sheet.proofs.Standing.{layout-same}

@@ -10,8 +10,8 @@
 --   standing cs i            what stands in slot i, computed. Its meaning: proofs/Runs, `standing-means`
 --   fresh st                 a fresh sheet into which the parcels st are put once each in rising slot order
 use mathlib.Core.Path.{_≡_}
-use mathlib.Core.Logic.{_⊎_, _≢_}
-use mathlib.Core.Bool.{Bool, _&&_}
+use mathlib.Core.Logic.{_≢_}
+use mathlib.Core.Bool.{_&&_}
 use mathlib.Core.List.{List, [], _∷_}
 use Prim.Native.Nat.{ℕ, _<_}
 use lib.Dec.{ltb, eqb}

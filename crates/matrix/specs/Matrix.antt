@@ -3,7 +3,7 @@
 --                            box a to the other, s that of the other to it
 --   matrixOf a b r s         the array, a list of three rows;  flatOf  the same nine numbers by row
 --   exchanged v              1 and 2 exchanged
-use mathlib.Core.Bool.{Bool, _&&_}
+use mathlib.Core.Bool.{_&&_}
 use mathlib.Core.List.{List, []}
 use Prim.Native.Nat.{ℕ, _+_, _*_, _/_, _%_}
 use lib.Dec.{ltb, eqb}

@@ -4,18 +4,17 @@
 --   centre-looked-at  not only edges are looked at: outline 6 has B, which none of its edges has
 --   gaps-kept         gap columns and rows are kept: the matrices of outlines 3 and 4 differ
 --   column-renewed    on replacement the column is renewed with the row, on any sheet
-use mathlib.Core.Path.{_≡_, refl, sym, _∙_, ap}
+use mathlib.Core.Path.{_≡_, refl, _∙_, ap}
 use mathlib.Core.Logic.{inl, inr}
-use mathlib.Core.Bool.{Bool, true, false, _||_}
-use mathlib.Core.List.{List, []}
-use Prim.Native.Nat.{ℕ, _+_, _*_, _/_, _%_, _≤_, _<_}
+use mathlib.Core.Bool.{true, false, _||_}
+use mathlib.Core.List.{List}
+use Prim.Native.Nat.{ℕ, _+_, _*_, _/_, _%_, _<_}
 use native.Mathlib.Omega.{arith}
 use lib.Dec.{eqb}
 use lib.ListN.{getD}
 use borrow.Author.Tests.{eq-eqb}
 use Rattle.plane.specs.declared.Box.{Box}
-use Rattle.plane.specs.Choice.{pick}
-use Rattle.plane.specs.Place.{placeOf, inRange}
+use Rattle.plane.specs.Place.{placeOf}
 use Rattle.plane.specs.Folds.{anyTo, sumTo, leastTo, greatestTo}
 use Rattle.plane.specs.Lists.{tabFrom}
 use Rattle.plane.specs.TileSet.{setOf, bit}

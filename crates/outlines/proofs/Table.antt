@@ -2,8 +2,7 @@
 --   table    the pair answers of all rows
 --   words    the word "around" of each
 use mathlib.Core.Path.{_≡_, refl}
-use mathlib.Core.Bool.{Bool}
-use mathlib.Core.List.{List, map}
+use mathlib.Core.List.{map}
 use Rattle.plane.specs.Place.{placeOf, inRange}
 use Rattle.plane.specs.Folds.{anyTo, sumTo, firstOf, leastTo, greatestTo}
 use Rattle.plane.specs.Lists.{tabFrom}
@@ -25,7 +24,7 @@ use Rattle.matrix.specs.Matrix.{cellValue, matrixOf, flatOf}
 use Rattle.matrix.specs.Directions.{sideOf, holdsFirst, holdsSecond, compassPlace, directed, directionsOf}
 use Rattle.pair.specs.declared.Answer.{Answer}
 use Rattle.pair.specs.Answer.{pairOf, answerOf, answerFor, given, aroundOf}
-use Rattle.outlines.specs.Rows.{Outline, Row, rows}
+use Rattle.outlines.specs.Rows.{Row, rows}
 
 abbrev pub answerTo : Row → Answer
 answerTo r = pairOf (r .first .xs) (r .first .ends) (r .second .xs) (r .second .ends)

@@ -6,29 +6,26 @@
 --   pieces-between    the pieces are at least the edges and at most five times as many
 --   around-means      around is yes exactly when the directions are the eight without O
 --   directions-turned the directions of the second region from the first are the opposites
-use mathlib.Core.Path.{_≡_, refl, sym, _∙_, ap}
+use mathlib.Core.Path.{_≡_, refl, ap}
 use mathlib.Core.Logic.{_↔_, _≢_}
 use mathlib.Core.Bool.{Bool, true, false, not}
 use mathlib.Core.List.{List}
-use Prim.Native.Nat.{ℕ, zero, suc, _+_, _*_, _/_, _%_, _^_, _≤_, _<_}
+use Prim.Native.Nat.{ℕ, zero, suc, _*_, _≤_, _<_}
 use native.Mathlib.Omega.{arith}
-use native.Mathlib.Decide.{ℕ-discrete}
 use lib.Dec.{eqb}
 use lib.IntN.{ℤ}
-use borrow.Author.Tests.{eq-eqb, ne-eqb, eqb-true}
+use borrow.Author.Tests.{ne-eqb}
 use Rattle.plane.specs.Choice.{pick}
 use Rattle.plane.specs.Points.{Lines}
-use Rattle.plane.specs.Placed.{LinesInRange, Upright, boxOf}
-use Rattle.plane.specs.TileSet.{setOf, bit, one-if}
-use Rattle.plane.specs.declared.Box.{Box}
+use Rattle.plane.specs.TileSet.{setOf, bit}
 use Rattle.plane.proofs.Logic.{never, iff-join, both, eq-means, not-means, iff-not, iff-turn}
-use Rattle.plane.proofs.TileSet.{set-means, set-same, set-lt}
-use Rattle.ring.proofs.RingBox.{box-in-range, box-upright}
+use Rattle.plane.proofs.TileSet.{set-means, set-same}
+use Rattle.ring.proofs.RingBox.{box-in-range}
 use Rattle.outline.specs.declared.Checked.{Checked}
 use Rattle.outline.specs.declared.Checked.the-variants.{Accepted, Refused}
-use Rattle.outline.specs.Refusals.{number, no-tile}
+use Rattle.outline.specs.Refusals.{number}
 use Rattle.outline.specs.Region.{lastEnd}
-use Rattle.outline.specs.Rules.{Breaks, KeepsRules, RefusedWith}
+use Rattle.outline.specs.Rules.{KeepsRules}
 use Rattle.outline.specs.Check.{checkOf}
 use Rattle.outline.proofs.Check.{accepted-means, refused-means}
 use Rattle.relation.specs.Relation.{KeepsFirstFour, RegionBox, RegionHas, regionBox, relationOf, regionPieces}

@@ -5,7 +5,7 @@
 --   withParcel s i p        the sheet s with p in slot i
 --   putNumber, removeNumber, clearNumber     the number that the call returns: 0 or the refusal
 --   put, remove, clear      the lists at exit
-use mathlib.Core.Bool.{Bool, _||_}
+use mathlib.Core.Bool.{_||_}
 use mathlib.Core.List.{List}
 use Prim.Native.Nat.{ℕ, _/_, _%_}
 use lib.Dec.{ltb, eqb}

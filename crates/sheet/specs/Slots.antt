@@ -4,7 +4,7 @@
 --   parcelAt s i        what stands in slot i
 --   damagedAt s i       slot i is damaged;  damaged s  some slot is
 --   wrongLists s        rule 11: a list not of the sheet's length
-use mathlib.Core.Bool.{Bool, not, _&&_, _||_}
+use mathlib.Core.Bool.{Bool, not, _||_}
 use mathlib.Core.List.{List}
 use Prim.Native.Nat.{ℕ, _+_, _*_}
 use lib.Dec.{ltb, eqb}

@@ -9,10 +9,10 @@
 --   bytesAt bs from room      the same where the room, a count of bytes, holds them
 --   byteOf bs start k         byte k of the hexadecimal digits that stand from `start` on
 --   filled f n bs             bs with f k at each place k below n
-use mathlib.Core.Bool.{Bool, true, false, cond}
-use mathlib.Core.List.{List, [], _∷_}
-use Prim.Native.Nat.{ℕ, zero, suc, _+_, _-_, _*_, _/_, _%_, _^_, min}
-use lib.Dec.{leb, ltb, eqb}
+use mathlib.Core.Bool.{cond}
+use mathlib.Core.List.{List}
+use Prim.Native.Nat.{ℕ, zero, suc, _+_, _-_, _*_, _/_, _%_, _^_}
+use lib.Dec.{leb, eqb}
 use lib.ListN.{length, getD, drop, set}
 use lib.IntN.{ℤ, pos, negsuc}
 use Rattle.words.specs.Lines.{isDigit, isHex, hexValue, run, value, runAt, wordAt, endsAt}

@@ -7,7 +7,7 @@ use borrow.Author.Needs.{needs}
 use borrow.Author.Tests.{eq-eqb, ne-eqb}
 use Rattle.plane.specs.declared.Box.{Box}
 use Rattle.ring.specs.declared.Part.{Part}
-use Rattle.relation.specs.Relation.{regionBox, relationOf, regionPieces, regionPart}
+use Rattle.relation.specs.Relation.{regionBox, relationOf, regionPart}
 use Rattle.relation.proofs.Relation.{region-upright}
 use Rattle.relation.proofs.Regions.{region-box-in-places}
 use Rattle.pair.specs.Answer.{refusedWith, given, answerFor, answerOf}

@@ -1,4 +1,3 @@
-use mathlib.Core.Path.{_≡_, refl, sym, _∙_, ap}
 use borrow.Author.Needs.{needs}
 use Rattle.matrix.specs.Kept.{gridOf}
 use Rattle.pair.specs.Answer.{given}

@@ -7,7 +7,7 @@ use Rattle.outline.specs.declared.Checked.{Checked}
 use Rattle.outline.specs.declared.Checked.the-variants.{Accepted, Refused}
 use Rattle.outline.specs.Check.{checkOf}
 use Rattle.outline.proofs.Kept.{accepted-sized}
-use Rattle.pair.specs.Answer.{refusedBy, orRefused, answerOf, pairOf}
+use Rattle.pair.specs.Answer.{refusedBy, answerOf, pairOf}
 use Rattle.pair.proofs.pair_of.Statement.{statement}
 use Rattle.pair.proofs.pair_of.Tie as tie
 

@@ -1,0 +1,63 @@
+use borrow.Author.Needs.{needs}
+use mathlib.Core.Path.{_≡_, ap}
+use mathlib.Core.List.{List, _++_}
+use Prim.Native.Nat.{ℕ, _≤_}
+use native.Mathlib.Omega.{arith}
+use lib.ListN.{length, drop, length-append}
+use Rattle.listing.specs.Listing.{listing}
+use Rattle.listing.proofs.main.Statement.{statement}
+use Rattle.listing.proofs.main.Tie as tie
+use Rattle.listing.proofs.main.Reads as reads
+use Rattle.listing.proofs.main.Lts as lts
+use Rattle.io.proofs.read_full.Reads as read-full-reads
+use Rattle.io.proofs.write_all.Reads as write-all-reads
+use Rattle.listing.proofs.list.Reads as list-reads
+
+-- what `list` answers lies in the buffer
+front : (card out : List ℕ) {r : ℕ} {c : List ℕ} → (r ≡ length (listing card)) × (c ≡ listing card ++ drop (length (listing card)) out) → r ≤ length c
+front card out e = omega (arith, e .0, ap length (e .1), length-append (listing card) (drop (length (listing card)) out))
+
+slice-aggregate-read-full : tie.Need-slice-aggregate-read-full
+slice-aggregate-read-full c = search needs
+
+read-full-requires : tie.Need-read-full-requires
+read-full-requires c κs = search needs
+
+array-share-prefix-card : tie.Need-array-share-prefix-card
+array-share-prefix-card c = search needs
+
+slice-aggregate-list : tie.Need-slice-aggregate-list
+slice-aggregate-list c = search needs
+
+list-requires : tie.Need-list-requires
+list-requires c κs = search needs
+
+sub-write-all : tie.Need-sub-write-all
+sub-write-all c = search needs
+
+part-write-all-start : tie.Need-part-write-all-start
+part-write-all-start c = search needs
+
+part-write-all-end : tie.Need-part-write-all-end
+part-write-all-end c = front _ _ (c .before .list .ensures)
+
+write-all-requires : tie.Need-write-all-requires
+write-all-requires c κs = search needs
+
+returns : tie.Need-returns
+returns c = search needs
+
+pub main-spec : {M : Type 1} → statement M
+main-spec =
+    tie.close
+    (tie.spec
+    slice-aggregate-read-full
+    read-full-requires
+    array-share-prefix-card
+    slice-aggregate-list
+    list-requires
+    sub-write-all
+    part-write-all-start
+    part-write-all-end
+    write-all-requires
+    returns)

@@ -1,0 +1,52 @@
+-- Document 01: "The listing program reads a card on standard input; a refusal prints `refused ` and the number. .. First the count; then for each
+-- ordered pair of different slots, primary rising and then reference rising: primary, reference, tiles and directions in bit order, pieces of
+-- the primary. Every line, a refusal's too, ends in one line feed." A card's parcels stand in rising slot order. Letters are the numbers of
+-- their ASCII codes.
+--   decimal n              a number below 100,000 in as few digits as hold it
+--   pairLine p q a         the line for the parcels of slots p and q, whose pair answer is a
+--   lineOf card j k        that of parcels j and k of the card, counted from 0; of a parcel with itself there is none
+--   listing card           the whole text
+use mathlib.Core.List.{List, [], _∷_, _++_}
+use Prim.Native.Nat.{ℕ}
+use lib.Dec.{ltb, eqb}
+use Rattle.plane.specs.Choice.{pick}
+use Rattle.pair.specs.declared.Answer.{Answer}
+use Rattle.card.specs.Bytes.{joined}
+use Rattle.card.specs.Reading.{parcelCount, slotAt}
+use Rattle.card.specs.Load.{cardNumber}
+use Rattle.host.specs.Report.{pairIn}
+use Rattle.io.specs.Digits.{digits}
+use Rattle.listing.specs.Names.{namesOf, B, O}
+
+abbrev pub space : ℕ
+space = 32
+
+abbrev pub lineFeed : ℕ
+lineFeed = 10
+
+abbrev pub placesOf : ℕ → ℕ
+placesOf n = pick (ltb n 10) 1 (pick (ltb n 100) 2 (pick (ltb n 1000) 3 (pick (ltb n 10000) 4 5)))
+
+abbrev pub decimal : ℕ → List ℕ
+decimal n = digits 10 (placesOf n) n
+
+-- "parcels " and "refused "
+abbrev pub parcelsWord : List ℕ
+parcelsWord = 112 ∷ 97 ∷ 114 ∷ 99 ∷ 101 ∷ 108 ∷ 115 ∷ space ∷ []
+
+abbrev pub refusedWord : List ℕ
+refusedWord = 114 ∷ 101 ∷ 102 ∷ 117 ∷ 115 ∷ 101 ∷ 100 ∷ space ∷ []
+
+unfoldable pub pairLine : (p q : ℕ) → Answer → List ℕ
+pairLine p q a =
+    decimal p ++ (space ∷ (decimal q ++ (space ∷ (namesOf B (a .first) ++ (space ∷ (namesOf O (a .directions) ++ (space ∷ (decimal (a .«first_pieces»)
+    ++ (lineFeed ∷ [])))))))))
+
+unfoldable pub lineOf : List ℕ → (j k : ℕ) → List ℕ
+lineOf card j k = pick (eqb j k) [] (pairLine (slotAt card j) (slotAt card k) (pairIn card j k))
+
+unfoldable pub listing : List ℕ → List ℕ
+listing card =
+    pick (eqb (cardNumber card) 0)
+    (parcelsWord ++ (decimal (parcelCount card) ++ (lineFeed ∷ joined (λ j. joined (lineOf card j) (parcelCount card)) (parcelCount card))))
+    (refusedWord ++ (decimal (cardNumber card) ++ (lineFeed ∷ [])))
