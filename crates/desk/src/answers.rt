@@ -27,7 +27,7 @@ fn finish_number(out: &mut [u8], at: usize, number: u16) -> usize {
 
 fn finish_numbers(out: &mut [u8], at: usize, number: u16, more: u16) -> usize {
     let next = words::put_natural(out, at, number as u64);
-    let next = put_number(out, next, more);
+    let next = put_number(out, next, more as u64);
     words::put_byte(out, next, LINE_FEED)
 }
 
@@ -36,16 +36,20 @@ pub fn put_numbers(out: &mut [u8], from: usize, numbers: &[u16]) -> usize {
     let mut at = from;
     let mut i = 0;
     while i < numbers.len() {
-        at = put_number(out, at, numbers[i]);
+        at = put_number(out, at, wide(numbers[i]));
         i += 1;
     }
     at
 }
 
+fn wide(number: u16) -> u64 {
+    number as u64
+}
+
 // A number after a space.
-pub fn put_number(out: &mut [u8], at: usize, number: u16) -> usize {
+pub fn put_number(out: &mut [u8], at: usize, number: u64) -> usize {
     let next = words::put_byte(out, at, SPACE);
-    words::put_natural(out, next, number as u64)
+    words::put_natural(out, next, number)
 }
 
 // Bytes as one word, after a space.

@@ -1,6 +1,7 @@
 // The desk: every call of the library at a keyboard. Requests come in on standard input, one a line, and each has one line of answer on
 // standard output. There is one sheet, empty at the start.
 mod answers;
+mod cards;
 mod fronts;
 mod input;
 mod lists;
@@ -133,7 +134,8 @@ fn ask(
         names::LEND => lists::lend_reply(line, from, lent),
         names::POKE => lists::poke_reply(line, from, xs, records, relations),
         names::SHEET => lists::sheet_reply(line, from, out, at, xs, records, relations),
-        names::PUT | names::REMOVE | names::CLEAR => sheets::change(
+        names::HOST => cards::host_reply(line, from, out, at),
+        names::PUT | names::REMOVE | names::CLEAR | names::LOAD => sheets::change(
             name,
             line,
             from,
@@ -142,12 +144,13 @@ fn ask(
             relations,
             lent,
         ),
-        names::CELL | names::ROW => sheets::read(
+        names::CELL | names::ROW | names::WRITE => sheets::read(
             name,
             line,
             from,
             out,
             at,
+            xs,
             records,
             relations,
             lent,

@@ -18,3 +18,9 @@ pub const LEND: u64 = 0x6c_65_6e_64;
 pub const POKE: u64 = 0x70_6f_6b_65;
 
 pub const SHEET: u64 = 0x73_68_65_65_74;
+
+pub const LOAD: u64 = 0x6c_6f_61_64;
+
+pub const WRITE: u64 = 0x77_72_69_74_65;
+
+pub const HOST: u64 = 0x68_6f_73_74;

@@ -1,5 +1,6 @@
 // The calls on the sheet, which are lent as much of each of its lists as `lent` says.
 use crate::Reply;
+use crate::cards;
 use crate::fronts;
 use crate::names;
 use crate::parcels;
@@ -38,6 +39,7 @@ fn change_lent(
         names::PUT => parcels::put_reply(line, from, xs, records, relations),
         names::REMOVE => parcels::remove_reply(line, from, xs, records, relations),
         names::CLEAR => parcels::clear_reply(line, from, xs, records, relations),
+        names::LOAD => cards::load_reply(line, from, xs, records, relations),
         _ => Reply::Bad,
     }
 }
@@ -48,15 +50,18 @@ pub fn read(
     from: usize,
     out: &mut [u8],
     at: usize,
+    xs: &[i32],
     records: &[u16],
     relations: &[u16],
     lent: &[usize; 3],
 ) -> Reply {
+    let xs = fronts::integers(xs, lent[0]);
     let records = fronts::naturals(records, lent[1]);
     let relations = fronts::naturals(relations, lent[2]);
     match name {
         names::CELL => parcels::cell_reply(line, from, records, relations),
         names::ROW => parcels::row_reply(line, from, out, at, records, relations),
+        names::WRITE => cards::write_reply(line, from, out, at, xs, records, relations),
         _ => Reply::Bad,
     }
 }

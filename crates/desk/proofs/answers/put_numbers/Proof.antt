@@ -8,6 +8,7 @@ use Rattle.desk.proofs.answers.put_numbers.Tie as tie
 use Rattle.desk.proofs.answers.put_numbers.Reads as reads
 use Rattle.desk.proofs.answers.put_numbers.Lts as lts
 use Rattle.desk.proofs.answers.put_number.Reads as put-number-reads
+use Rattle.desk.proofs.answers.wide.Reads as wide-reads
 
 abbrev Inv-loop : tie.InvT-loop
 Inv-loop out₀ from numbers at₀ i₀ out at i = length out ≡ length out₀
@@ -18,11 +19,14 @@ abbrev μ-loop : tie.MeasureT-loop
 loop-holds : tie.Need-loop-holds Inv-loop μ-loop
 loop-holds c = refl
 
-mul-put-number : tie.Need-mul-put-number Inv-loop μ-loop
-mul-put-number c = search needs
+mul-wide : tie.Need-mul-wide Inv-loop μ-loop
+mul-wide c = search needs
 
-shared-slice-read-put-number : tie.Need-shared-slice-read-put-number Inv-loop μ-loop
-shared-slice-read-put-number c = search needs
+shared-slice-read-wide : tie.Need-shared-slice-read-wide Inv-loop μ-loop
+shared-slice-read-wide c = search needs
+
+wide-requires : tie.Need-wide-requires Inv-loop μ-loop
+wide-requires c κs = search needs
 
 put-number-requires : tie.Need-put-number-requires Inv-loop μ-loop
 put-number-requires c κs = search needs
@@ -34,7 +38,7 @@ loop-less : tie.Need-loop-less Inv-loop μ-loop
 loop-less c = omega arith
 
 loop-again : tie.Need-loop-again Inv-loop μ-loop
-loop-again c = c .before .before .put-number .kept .0 ∙ c .before .before .before .before .before .before .loop .inv
+loop-again c = c .before .before .put-number .kept .0 ∙ c .before .before .before .before .before .before .before .loop .inv
 
 same-length : tie.Need-same-length Inv-loop μ-loop
 same-length c = c .before .loop .inv
@@ -49,8 +53,9 @@ put-numbers-spec =
     Inv-loop
     μ-loop
     loop-holds
-    mul-put-number
-    shared-slice-read-put-number
+    mul-wide
+    shared-slice-read-wide
+    wide-requires
     put-number-requires
     add-i
     loop-less
