@@ -1,4 +1,5 @@
-// The requests on cards: load, write, host.
+// The requests on cards: load, write, host. A line of 65,535 bytes has digits for at most 32,767, so every card that is read has room in a
+// list of 32,768.
 use crate::Reply;
 use crate::answers;
 use crate::fronts;
@@ -85,7 +86,7 @@ fn report_card(line: &[u8], from: usize, out: &mut [u8], at: usize, report: &mut
     Reply::Upto(answers::put_bytes(out, next, report))
 }
 
-// Reads the bytes that are the last word of the line. The longest line has room for fewer bytes than a buffer here.
+// The bytes that are the first word from `from` on, where nothing stands after it.
 fn read_last_bytes(line: &[u8], from: usize, into: &mut [u8]) -> Bytes {
     let read = words::read_bytes(line, from, into);
     let Bytes::Are { count, next } = read else {
