@@ -23,7 +23,7 @@ use Rattle.outline.specs.Check.{shortAt}
 use Rattle.outline.specs.Sized.{Sized}
 use Rattle.outline.proofs.Region.{start-lt}
 use Rattle.sheet.proofs.Undamaged.{none-any}
-use Rattle.card.specs.Bytes.{u16At}
+use Rattle.endian.specs.Bytes.{u16At}
 use Rattle.card.specs.Layout.{parcelsAt, ringsAt, verticesAt, lengthOf}
 use Rattle.card.specs.Reading.{parcelCount, ringCount, vertexCount, countAt, firstRing, firstVertex, endsAt, numbersAt}
 use Rattle.card.specs.Load.{wrongHeader, wrongEntry, wrongParcels, wrongVertices, sizesNumber}

@@ -21,7 +21,7 @@ use Rattle.outline.specs.Region as Region
 use Rattle.outline.specs.Region.{lastEnd}
 use Rattle.outline.specs.Check.{shortAt}
 use Rattle.sheet.proofs.Undamaged.{first-any}
-use Rattle.card.specs.Bytes.{u16At}
+use Rattle.endian.specs.Bytes.{u16At}
 use Rattle.card.specs.Layout.{mostParcels, mostRings, mostVertices, parcelsAt, ringsAt, verticesAt, lengthOf}
 use Rattle.card.specs.Reading.{parcelCount, ringCount, vertexCount, slotAt, countAt, endsAt}
 use Rattle.card.specs.Load.{wrongHeader, wrongEntry, wrongParcels, sizesNumber, wrongVertices, shapeNumber, firstNumber, cardNumber}

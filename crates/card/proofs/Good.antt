@@ -1,13 +1,13 @@
 -- What a good card holds.
 --   good-tests       every test of a good card, taken apart
---   next-slot        its slots rise
+--   next-slot, slots-rise     its slots rise
 --   card-accepts     every parcel of a good card keeps rules 1 to 7
 --   parcel-accepts   so whatever a good card puts into a slot is nothing or an accepted outline
 use mathlib.Core.Path.{_≡_, refl, sym, _∙_, ap}
 use mathlib.Core.Logic.{_≢_}
 use mathlib.Core.Bool.{Bool, true, false, not, _&&_, _||_}
 use mathlib.Core.List.{List}
-use Prim.Native.Nat.{ℕ, _+_, _-_, _*_, _≤_, _<_}
+use Prim.Native.Nat.{ℕ, zero, suc, _+_, _-_, _*_, _≤_, _<_}
 use native.Mathlib.Omega.{arith}
 use lib.Dec.{leb, ltb, eqb}
 use lib.ListN.{length}
@@ -164,9 +164,21 @@ module _ (b : List ℕ) (good : Good b) (k : ℕ) (l : k < parcelCount b) where
       ) (shape-accepted (numbersAt b k) ends (good .shapes k l))
 
 -- slots rise from entry to entry
-pub next-slot : (b : List ℕ) → Good b → (k : ℕ) → k + 1 < parcelCount b → slotAt b k < slotAt b (k + 1)
-unfolding wrongEntry
-next-slot b good k l =
-    let w = or-false (ltb 0 (k + 1) && leb (slotAt b (k + 1)) (slotAt b (k + 1 - 1))) _ (good .entries (k + 1) l) .0 in
-    let e : k + 1 - 1 ≡ k = omega arith in
-    leb-false (slotAt b (k + 1)) (slotAt b k) (rw (lt-ltb 0 (k + 1) (omega arith), e) at w)
+module _ (b : List ℕ) (good : Good b) where
+  pub next-slot : (k : ℕ) → k + 1 < parcelCount b → slotAt b k < slotAt b (k + 1)
+  unfolding wrongEntry
+  next-slot k l =
+      let w = or-false (ltb 0 (k + 1) && leb (slotAt b (k + 1)) (slotAt b (k + 1 - 1))) _ (good .entries (k + 1) l) .0 in
+      let e : k + 1 - 1 ≡ k = omega arith in
+      leb-false (slotAt b (k + 1)) (slotAt b k) (rw (lt-ltb 0 (k + 1) (omega arith), e) at w)
+
+  later-slot : (j d : ℕ) → j + suc d < parcelCount b → slotAt b j < slotAt b (j + suc d)
+  later-slot j zero h = next-slot j h
+  later-slot j (suc d) h =
+      let e : j + suc (suc d) ≡ j + suc d + 1 = omega arith in
+      rw e (omega (arith, later-slot j d (omega arith), next-slot (j + suc d) (omega arith)))
+
+  pub slots-rise : (j k : ℕ) → j < k → k < parcelCount b → slotAt b j < slotAt b k
+  slots-rise j k l h =
+      let e : j + suc (k - suc j) ≡ k = omega arith in
+      rw e at (later-slot j (k - suc j) (omega arith))

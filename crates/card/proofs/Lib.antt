@@ -1,13 +1,7 @@
 pub mod Good
-pub mod Sound
-pub mod Held
-pub mod WrittenCard
+pub mod Lengths
 pub mod FirstNumber
 pub mod GoodMeans
-pub mod RoundTrip
-pub mod LoadedCard
-pub mod Placed
-pub mod Signs
 pub mod Bounds
 pub mod Sums
 pub mod Filling

@@ -25,8 +25,7 @@ use Rattle.sheet.proofs.Standing.{came, layout-lists, layout-undamaged, layout-
 use Rattle.card.specs.Reading.{parcelCount, slotAt, endsAt, numbersAt, entryOf, parcelIn}
 use Rattle.card.specs.Load.{cardNumber, loadNumber, load}
 use Rattle.card.specs.Steps.{loaded}
-use Rattle.card.proofs.Good.{Good, good-tests, card-accepts, slot-small}
-use Rattle.card.proofs.LoadedCard.{slots-rise}
+use Rattle.card.proofs.Good.{Good, good-tests, card-accepts, slot-small, slots-rise}
 
 pub loaded-none : (b : List ℕ) → layout (λ i. nothing) ≡ layout (loaded b 0)
 unfolding loaded

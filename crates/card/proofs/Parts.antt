@@ -22,10 +22,11 @@ use Rattle.sheet.specs.Slots.{countOf, endsOf, numbersOf, parcelAt}
 use Rattle.sheet.specs.Steps.{Whole, slotsOf}
 use Rattle.sheet.proofs.Blocks.{part-length}
 use Rattle.sheet.proofs.SlotCells.{slot-few, slot-low}
-use Rattle.card.specs.Bytes.{u16Bytes, i32Bytes, joined}
+use Rattle.endian.specs.Bytes.{u16Bytes, i32Bytes, joined}
 use Rattle.card.specs.Write.{stands, ringsOf, verticesOf, entryBytes, endBytes, vertexBytes, parcelTotal, ringTotal, vertexTotal}
-use Rattle.card.specs.Steps.{placed, wordBytes, numberBytes, Counted, stood, totalsOf}
-use Rattle.card.proofs.Placed.{Placing, placing-none, placing-more, placing-all, joined-more, length-same}
+use Rattle.endian.specs.Placed.{placed, wordBytes, numberBytes}
+use Rattle.card.specs.Steps.{Counted, stood, totalsOf}
+use Rattle.endian.proofs.Placed.{Placing, placing-none, placing-more, placing-all, joined-more, length-same}
 
 pub counted : (xs : List ℤ) (records : List ℕ) → Whole xs records → Counted records
 counted xs records w =

@@ -18,13 +18,15 @@ use Rattle.sheet.specs.Slots.{countOf, endsOf, parcelAt, damaged, wrongLists}
 use Rattle.sheet.specs.Steps.{slotsOf}
 use Rattle.card.specs.declared.Written.{Written}
 use Rattle.card.specs.declared.Totals.{Totals}
-use Rattle.card.specs.Bytes.{u16Bytes, joined}
+use Rattle.endian.specs.Bytes.{u16Bytes, joined}
 use Rattle.card.specs.Layout.{parcelsAt, ringsAt, verticesAt, lengthOf}
 use Rattle.card.specs.Write.{entryBytes, endBytes, parcelTotal, ringTotal, vertexTotal, cardOf, writeNumber, written, write}
-use Rattle.card.specs.Steps.{placed, wordBytes, Counted, stood, totalsOf, headerOf, entriesTo, endsTo, verticesTo}
-use Rattle.card.proofs.Placed.{placed-append, placed-whole}
+use Rattle.endian.specs.Placed.{placed, wordBytes}
+use Rattle.card.specs.Steps.{Counted, stood, totalsOf, headerOf, entriesTo, endsTo, verticesTo}
+use Rattle.endian.proofs.Placed.{placed-append, placed-whole}
 use Rattle.card.proofs.Parts.{entry-bytes, end-bytes, stood-le, totals-are}
-use Rattle.card.proofs.WrittenCard.{joined-same, written-length, entries-length, ends-length, vertices-length}
+use Rattle.endian.proofs.Joined.{joined-same}
+use Rattle.card.proofs.Lengths.{written-length, entries-length, ends-length, vertices-length}
 
 pub totals-le : (records : List ℕ) → Counted records → (totalsOf records .parcels ≤ 32) × (totalsOf records .rings ≤ 256) × (totalsOf records .vertices ≤ 2048)
 unfolding totalsOf

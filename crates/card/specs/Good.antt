@@ -8,7 +8,7 @@ use Rattle.plane.specs.Folds.{sumTo}
 use Rattle.outline.specs.Region as Region
 use Rattle.outline.specs.Region.{lastEnd}
 use Rattle.outline.specs.Rules.{KeepsRules}
-use Rattle.card.specs.Bytes.{u16At}
+use Rattle.endian.specs.Bytes.{u16At}
 use Rattle.card.specs.Layout.{mostParcels, mostRings, mostVertices, parcelsAt, ringsAt, verticesAt, lengthOf}
 use Rattle.card.specs.Reading.{parcelCount, ringCount, vertexCount, slotAt, countAt, endsAt, numbersAt}
 

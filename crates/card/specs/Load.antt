@@ -18,7 +18,7 @@ use Rattle.outline.specs.Region.{lastEnd}
 use Rattle.outline.specs.Check.{shortAt, shapeOf, numberOf}
 use Rattle.sheet.specs.Layout.{Sheet, layout}
 use Rattle.sheet.specs.Slots.{wrongLists}
-use Rattle.card.specs.Bytes.{u16At}
+use Rattle.endian.specs.Bytes.{u16At}
 use Rattle.card.specs.Layout.{mostParcels, mostRings, mostVertices, parcelsAt, ringsAt, verticesAt, lengthOf}
 use Rattle.card.specs.Reading.{parcelCount, ringCount, vertexCount, slotAt, countAt, endsAt, numbersAt, parcelIn}
 

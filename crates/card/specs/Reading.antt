@@ -13,7 +13,7 @@ use Rattle.plane.specs.Folds.{sumTo, firstOf}
 use Rattle.plane.specs.Lists.{tab}
 use Rattle.outline.specs.Region.{lastEnd}
 use Rattle.sheet.specs.Layout.{Parcel, nothing, outline}
-use Rattle.card.specs.Bytes.{u16At, i32At}
+use Rattle.endian.specs.Bytes.{u16At, i32At}
 use Rattle.card.specs.Layout.{parcelsAt, ringsAt, verticesAt}
 
 abbrev pub parcelCount : List ℕ → ℕ

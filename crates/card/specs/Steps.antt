@@ -1,7 +1,5 @@
 -- What the functions behind the calls compute, and what they may rely on. No promise hangs on these names: proofs/ shows that the steps
 -- together are the calls of specs/Load and specs/Write.
---   placed b at l           the bytes b once those of l are stored from place `at` on
---   wordBytes ws n, numberBytes xs n      the bytes of the first n numbers of a list, two each and four
 --   RightParcels b          the card keeps rules 14 and 15: every ring entry is there
 --   RightVertices b         it keeps rules 2, 3 and 16 too: every vertex is there
 --   loaded b n i            what the first n parcels of the card b put into slot i
@@ -10,11 +8,10 @@
 --   entriesTo st n, endsTo st n, verticesTo st n     the three parts of a card, as far as the first n slots
 use mathlib.Core.Path.{_≡_}
 use mathlib.Core.Bool.{false}
-use mathlib.Core.List.{List, [], _∷_, _++_}
-use Prim.Native.Nat.{ℕ, suc, _/_, _%_, _≤_, _<_}
+use mathlib.Core.List.{List, [], _∷_}
+use Prim.Native.Nat.{ℕ, _/_, _≤_, _<_}
 use lib.Dec.{ltb, eqb}
-use lib.ListN.{length, getD, set}
-use lib.IntN.{ℤ, pos}
+use lib.ListN.{length}
 use Rattle.plane.specs.Choice.{pick}
 use Rattle.plane.specs.Folds.{sumTo}
 use Rattle.outline.specs.Region.{mostRings, mostVertices, lastEnd}
@@ -22,24 +19,11 @@ use Rattle.sheet.specs.Layout.{Parcel, nothing, outline, slots, records-length}
 use Rattle.sheet.specs.Slots.{countOf, endsOf}
 use Rattle.sheet.specs.Steps.{slotsOf}
 use Rattle.card.specs.declared.Totals.{Totals}
-use Rattle.card.specs.Bytes.{u16Bytes, i32Bytes, joined}
+use Rattle.endian.specs.Bytes.{joined}
 use Rattle.card.specs.Layout.{parcelsAt, ringsAt, verticesAt}
 use Rattle.card.specs.Write.{entryBytes, endBytes, vertexBytes}
 use Rattle.card.specs.Reading.{parcelCount, endsAt, numbersAt, entryOf}
 use Rattle.card.specs.Load.{wrongHeader, wrongParcels, sizesNumber, wrongVertices}
-
-unfoldable pub placed : List ℕ → ℕ → List ℕ → List ℕ
-placed b at [] = b
-placed b at (x ∷ l) = placed (set b at x) (suc at) l
-
-abbrev pub u32Bytes : ℕ → List ℕ
-u32Bytes v = u16Bytes (v % 65536) ++ u16Bytes (v / 65536)
-
-abbrev pub wordBytes : List ℕ → ℕ → List ℕ
-wordBytes ws n = joined (λ k. u16Bytes (getD ws k 0)) n
-
-abbrev pub numberBytes : List ℤ → ℕ → List ℕ
-numberBytes xs n = joined (λ k. i32Bytes (getD xs k (pos 0))) n
 
 pub record RightParcels (b : List ℕ) : Type 0 where
   pub header : wrongHeader b ≡ false

@@ -15,7 +15,7 @@ use Rattle.outline.specs.Region.{lastEnd}
 use Rattle.sheet.specs.Layout.{Sheet, Parcel, nothing, outline, slots}
 use Rattle.sheet.specs.Slots.{parcelAt, damaged, wrongLists}
 use Rattle.card.specs.declared.Written.{Written}
-use Rattle.card.specs.Bytes.{u16Bytes, i32Bytes, joined}
+use Rattle.endian.specs.Bytes.{u16Bytes, i32Bytes, joined}
 use Rattle.card.specs.Layout.{parcelsAt, ringsAt, verticesAt}
 
 abbrev pub stands : Parcel → ℕ

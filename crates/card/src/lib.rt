@@ -23,7 +23,6 @@ use tests::card_number;
 use writing::count_all;
 use writing::put_card;
 
-pub mod bytes;
 pub mod parcels;
 pub mod tests;
 mod writing;

@@ -9,8 +9,8 @@ ghost use Rattle.card.specs.Layout.{parcelsAt, ringsAt, verticesAt};
 ghost use Rattle.card.specs.Reading.{parcelCount, ringCount, slotAt, countAt, firstRing, firstVertex, endsAt, numbersAt};
 ghost use Rattle.card.specs.Load.{wrongHeader};
 ghost use Rattle.card.specs.Steps.{RightParcels, RightVertices};
-use crate::bytes::i32_at;
-use crate::bytes::u16_at;
+use endian::i32_at;
+use endian::u16_at;
 use outline::last_end;
 
 pub const PARCELS_AT: usize = 12;

@@ -1,8 +1,8 @@
 // The requests on cards: load, write, host. A line of 65,535 bytes has digits for at most 32,767, so every card that is read has room in a
 // list of 32,768.
-use crate::Reply;
-use crate::answers;
-use crate::fronts;
+use requests::Reply;
+use requests::answers;
+use requests::fronts;
 use words::Bytes;
 use words::Natural;
 

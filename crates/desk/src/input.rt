@@ -1,6 +1,6 @@
 // The input, in chunks, and the lines in it.
-use crate::fronts;
 use libc::STDIN_FILENO;
+use requests::fronts;
 
 const LINE_FEED: u8 = 10;
 

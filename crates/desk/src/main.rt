@@ -1,32 +1,21 @@
 // The desk: every call of the library at a keyboard. Requests come in on standard input, one a line, and each has one line of answer on
 // standard output. There is one sheet, empty at the start.
-mod answers;
 mod cards;
-mod fronts;
 mod input;
-mod lists;
 mod names;
-mod outlines;
-mod pairs;
-mod parcels;
 mod sheets;
 
 use input::Place;
+use requests::Reply;
+use requests::answers;
+use requests::fronts;
+use requests::lists;
+use requests::pairs;
 
 // The bytes that a line may have.
 const LONGEST_LINE: usize = 65535;
 // From here on what is written is sent before the next answer: any answer has room behind it.
 const MUCH: usize = 32768;
-
-// What a request comes to: an answer that is written up to this place, without its line feed; a number, two numbers or `ok` that is still
-// to be written; or the line is none of the forms.
-pub enum Reply {
-    Upto(usize),
-    Number(u16),
-    Numbers(u16, u16),
-    Ok,
-    Bad,
-}
 
 fn main() {
     let mut chunk = io::large_buffer();

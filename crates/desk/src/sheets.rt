@@ -1,9 +1,9 @@
 // The calls on the sheet, which are lent as much of each of its lists as `lent` says.
-use crate::Reply;
 use crate::cards;
-use crate::fronts;
 use crate::names;
-use crate::parcels;
+use requests::Reply;
+use requests::fronts;
+use requests::parcels;
 
 pub fn change(
     name: u64,

@@ -14,10 +14,10 @@ use Rattle.card.specs.Load as Load
 use Rattle.card.specs.Load.{cardNumber, loadNumber}
 use Rattle.card.specs.Write.{cardOf}
 use Rattle.card.proofs.Good.{good-tests}
-use Rattle.card.proofs.Sound.{Sound, sound-card}
-use Rattle.card.proofs.WrittenCard.{card-same}
-use Rattle.card.proofs.RoundTrip.{written-parcel, written-good}
-use Rattle.card.proofs.LoadedCard.{one-form}
+use Rattle.hire.proofs.Sound.{Sound, sound-card}
+use Rattle.card.proofs.Lengths.{card-same}
+use Rattle.hire.proofs.RoundTrip.{written-parcel, written-good}
+use Rattle.hire.proofs.LoadedCard.{one-form}
 use Rattle.hire.specs.Runs.{Call, afterRun, standing}
 use Rattle.sheet.proofs.Standing.{layout-same}
 use Rattle.hire.proofs.Layouts.{layout-parcel}

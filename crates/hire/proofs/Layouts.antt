@@ -9,7 +9,7 @@ use Rattle.sheet.specs.Changes.{withParcel}
 use Rattle.sheet.specs.Steps.{Stands}
 use Rattle.sheet.proofs.Slots.{right-lists, count-read}
 use Rattle.sheet.proofs.Standing as Standing
-use Rattle.card.proofs.Sound.{Sound}
+use Rattle.hire.proofs.Sound.{Sound}
 use Rattle.hire.specs.Runs.{instead}
 
 sound-stands : (p : Parcel) → Sound p → Stands p

@@ -1,3 +1,8 @@
+pub mod Sound
+pub mod Held
+pub mod WrittenCard
+pub mod RoundTrip
+pub mod LoadedCard
 pub mod Layouts
 pub mod Runs
 pub mod Cells

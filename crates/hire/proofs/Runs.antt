@@ -28,7 +28,7 @@ use Rattle.card.specs.Load as Load
 use Rattle.card.specs.Load.{cardNumber, loadNumber}
 use Rattle.hire.specs.Runs.{Call, put, remove, clear, load, afterRun, AcceptedPut, Spares, put-elsewhere, put-refused, removed-elsewhere, load-refused, Stands, just-put, just-loaded, still, instead, standing, putParcel, fresh}
 use Rattle.outline.proofs.Fits.{accepted-fits}
-use Rattle.card.proofs.Sound.{Sound, sound-card}
+use Rattle.hire.proofs.Sound.{Sound, sound-card}
 use Rattle.sheet.proofs.Standing.{layout-same}
 use Rattle.hire.proofs.Layouts.{layout-lists, layout-whole, layout-with, count-is}
 

@@ -9,11 +9,11 @@ use native.Mathlib.Omega.{arith}
 use lib.ListN.{length, getD, drop}
 use borrow.Author.Tests.{lt-ltb, le-ltb, eq-eqb, ne-eqb}
 use Rattle.pair.specs.declared.Answer.{Answer}
-use Rattle.card.specs.Bytes.{u16Bytes}
+use Rattle.endian.specs.Bytes.{u16Bytes}
 use Rattle.card.specs.Reading.{parcelCount}
 use Rattle.card.specs.Load.{cardNumber}
-use Rattle.card.specs.Steps.{placed, wordBytes}
-use Rattle.card.proofs.Placed.{length-same, placed-whole}
+use Rattle.endian.specs.Placed.{placed, wordBytes}
+use Rattle.endian.proofs.Placed.{length-same, placed-whole}
 use Rattle.host.specs.Report.{reportWords, pairIn, hostNumber, hostReport}
 
 -- the report is 38 bytes long

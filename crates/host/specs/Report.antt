@@ -14,7 +14,7 @@ use Rattle.plane.specs.Choice.{pick}
 use Rattle.outline.specs.Refusals.{number, buffer-short, not-two-parcels}
 use Rattle.pair.specs.declared.Answer.{Answer}
 use Rattle.pair.specs.Answer.{pairOf}
-use Rattle.card.specs.Bytes.{u16Bytes, joined}
+use Rattle.endian.specs.Bytes.{u16Bytes, joined}
 use Rattle.card.specs.Reading.{parcelCount, endsAt, numbersAt}
 use Rattle.card.specs.Load.{cardNumber}
 

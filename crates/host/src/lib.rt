@@ -4,14 +4,14 @@ ghost use Prim.Native.Nat.{_<_, _≤_};
 ghost use lib.ListN.{length};
 ghost use Rattle.card.specs.Reading.{parcelCount};
 ghost use Rattle.card.specs.Load.{cardNumber};
-ghost use Rattle.card.specs.Steps.{placed, wordBytes};
+ghost use Rattle.endian.specs.Placed.{placed, wordBytes};
 ghost use Rattle.host.specs.Report.{reportLength, reportWords, pairIn, hostNumber, hostReport};
 use card::BUFFER_SHORT;
-use card::bytes::put_words;
 use card::parcels::parcel_count;
 use card::parcels::read_ends;
 use card::parcels::read_numbers;
 use card::tests::card_number;
+use endian::put_words;
 use pair::Answer;
 use pair::pair_of;
 

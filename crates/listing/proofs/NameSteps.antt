@@ -15,7 +15,7 @@ use lib.ListN.{length, length-append}
 use borrow.Author.Tests.{eq-eqb, ne-eqb}
 use Rattle.plane.specs.Choice.{pick}
 use Rattle.plane.specs.TileSet.{bit}
-use Rattle.card.specs.Bytes.{joined}
+use Rattle.endian.specs.Bytes.{joined}
 use Rattle.listing.specs.Names.{colon, nameOf, colonAfter, namesTo, namesOf}
 use Rattle.listing.specs.Steps.{joint, nameStep}
 

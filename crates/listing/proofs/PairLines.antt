@@ -18,7 +18,7 @@ use lib.ListN.{length, length-append}
 use borrow.Author.Tests.{eq-eqb, ne-eqb}
 use Rattle.plane.specs.Choice.{pick}
 use Rattle.pair.specs.declared.Answer.{Answer}
-use Rattle.card.specs.Bytes.{joined}
+use Rattle.endian.specs.Bytes.{joined}
 use Rattle.card.specs.Reading.{parcelCount, slotAt}
 use Rattle.card.specs.Load.{cardNumber}
 use Rattle.card.proofs.Good.{good-tests}

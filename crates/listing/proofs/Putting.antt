@@ -12,8 +12,8 @@ use lib.ListN.{length, set, drop, take, length-append}
 use lib.Seq.{paste, take-all}
 use borrow.Author.Tests.{le-leb}
 use Rattle.words.specs.Texts.{Wrote}
-use Rattle.card.specs.Steps.{placed}
-use Rattle.card.proofs.Placed.{length-placed, placed-append, placed-whole}
+use Rattle.endian.specs.Placed.{placed}
+use Rattle.endian.proofs.Placed.{length-placed, placed-append, placed-whole}
 use Rattle.listing.specs.Steps.{Put}
 
 pub put-none : (b : List ℕ) (at : ℕ) → Put b at [] at b

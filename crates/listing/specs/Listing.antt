@@ -11,7 +11,7 @@ use Prim.Native.Nat.{ℕ}
 use lib.Dec.{ltb, eqb}
 use Rattle.plane.specs.Choice.{pick}
 use Rattle.pair.specs.declared.Answer.{Answer}
-use Rattle.card.specs.Bytes.{joined}
+use Rattle.endian.specs.Bytes.{joined}
 use Rattle.card.specs.Reading.{parcelCount, slotAt}
 use Rattle.card.specs.Load.{cardNumber}
 use Rattle.host.specs.Report.{pairIn}

@@ -10,9 +10,9 @@ use lib.Dec.{eqb}
 use lib.ListN.{length}
 use Rattle.plane.specs.Choice.{pick}
 use Rattle.plane.specs.TileSet.{bit}
-use Rattle.card.specs.Bytes.{joined}
+use Rattle.endian.specs.Bytes.{joined}
 use Rattle.card.specs.Reading.{parcelCount}
-use Rattle.card.specs.Steps.{placed}
+use Rattle.endian.specs.Placed.{placed}
 use Rattle.listing.specs.Names.{colon, colonAfter, nameOf, namesTo}
 use Rattle.listing.specs.Listing.{lineOf}
 

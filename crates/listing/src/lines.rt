@@ -2,7 +2,7 @@
 ghost use mathlib.Core.Path.{_≡_};
 ghost use Prim.Native.Nat.{_+_, _≤_, _<_};
 ghost use lib.ListN.{length};
-ghost use Rattle.card.specs.Bytes.{joined};
+ghost use Rattle.endian.specs.Bytes.{joined};
 ghost use Rattle.card.specs.Reading.{parcelCount};
 ghost use Rattle.card.specs.Load.{cardNumber};
 ghost use Rattle.listing.specs.Listing.{pairLine, lineOf};

@@ -11,7 +11,8 @@ use Rattle.sheet.proofs.Steps.{damage-alone}
 use Rattle.card.specs.declared.Totals.{Totals}
 use Rattle.card.specs.Layout.{lengthOf}
 use Rattle.card.specs.Write.{cardOf}
-use Rattle.card.specs.Steps.{placed, Counted}
+use Rattle.endian.specs.Placed.{placed}
+use Rattle.card.specs.Steps.{Counted}
 use Rattle.card.proofs.Parts.{counted}
 use Rattle.card.proofs.WholeCard.{totals-le, card-size, card-alone, write-refused-lists, write-refused-damaged, write-refused-short, write-done}
 use borrow.Author.Needs.{needs}

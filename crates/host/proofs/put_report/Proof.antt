@@ -4,13 +4,13 @@ use Prim.Native.Nat.{ℕ}
 use lib.ListN.{length, getD, length-map}
 use Rattle.plane.specs.Lists.{tabFrom}
 use Rattle.plane.proofs.Lists.{tab-all}
-use Rattle.card.specs.Steps.{placed, wordBytes}
+use Rattle.endian.specs.Placed.{placed, wordBytes}
 use borrow.Author.Needs.{needs}
 use Rattle.host.proofs.put_report.Statement.{statement}
 use Rattle.host.proofs.put_report.Tie as tie
 use Rattle.host.proofs.put_report.Reads as reads
 use Rattle.host.proofs.put_report.Lts as lts
-use Rattle.card.proofs.bytes.put_words.Reads as put-words-reads
+use Rattle.endian.proofs.put_words.Reads as put-words-reads
 
 -- nine numbers, written out
 nine : (l rest : List ℕ) → length l ≡ 9

@@ -4,7 +4,7 @@ use mathlib.Core.List.{List, [], _∷_, _++_}
 use Prim.Native.Nat.{ℕ, _+_, _≤_}
 use native.Mathlib.Omega.{arith}
 use lib.ListN.{length, drop}
-use Rattle.card.specs.Bytes.{joined}
+use Rattle.endian.specs.Bytes.{joined}
 use Rattle.card.specs.Reading.{parcelCount}
 use Rattle.card.specs.Load.{cardNumber}
 use Rattle.listing.specs.Listing.{lineFeed, decimal, parcelsWord, refusedWord, listing}

@@ -4,7 +4,7 @@ use Prim.Native.Nat.{ℕ, _+_, _*_, _≤_, _-_}
 use native.Mathlib.Omega.{arith}
 use lib.ListN.{length}
 use Rattle.plane.specs.Lists.{tab}
-use Rattle.card.specs.Bytes.{u16At}
+use Rattle.endian.specs.Bytes.{u16At}
 use Rattle.card.specs.Layout.{ringsAt}
 use Rattle.card.specs.Reading.{parcelCount, firstRing, endsAt}
 use Rattle.card.proofs.Bounds.{RingPart, entry-there, rings-there}
@@ -14,7 +14,7 @@ use Rattle.card.proofs.parcels.read_ends.Statement.{statement}
 use Rattle.card.proofs.parcels.read_ends.Tie as tie
 use Rattle.card.proofs.parcels.read_ends.Reads as reads
 use Rattle.card.proofs.parcels.read_ends.Lts as lts
-use Rattle.card.proofs.bytes.u16_at.Reads as u16-at-reads
+use Rattle.endian.proofs.u16_at.Reads as u16-at-reads
 use Rattle.card.proofs.parcels.count_at.Reads as count-at-reads
 use Rattle.card.proofs.parcels.first_ring.Reads as first-ring-reads
 use Rattle.card.proofs.parcels.rings_at.Reads as rings-at-reads

@@ -7,7 +7,7 @@ use lib.ListN.{length}
 use mir.Facts.{toZ-ofZ}
 use mir.Syntax.{w32}
 use Rattle.plane.specs.Lists.{tab}
-use Rattle.card.specs.Bytes.{i32At}
+use Rattle.endian.specs.Bytes.{i32At}
 use Rattle.card.specs.Layout.{verticesAt}
 use Rattle.card.specs.Reading.{parcelCount, ringCount, firstVertex, numbersAt}
 use Rattle.card.proofs.Bounds.{VertexPart, vertices-there}
@@ -17,7 +17,7 @@ use Rattle.card.proofs.parcels.read_numbers.Statement.{statement}
 use Rattle.card.proofs.parcels.read_numbers.Tie as tie
 use Rattle.card.proofs.parcels.read_numbers.Reads as reads
 use Rattle.card.proofs.parcels.read_numbers.Lts as lts
-use Rattle.card.proofs.bytes.i32_at.Reads as i32-at-reads
+use Rattle.endian.proofs.i32_at.Reads as i32-at-reads
 use Rattle.card.proofs.parcels.first_vertex.Reads as first-vertex-reads
 use Rattle.card.proofs.parcels.vertices_at.Reads as vertices-at-reads
 use Rattle.card.proofs.parcels.vertices_of.Reads as vertices-of-reads

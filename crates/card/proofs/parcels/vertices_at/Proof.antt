@@ -5,7 +5,7 @@ use Rattle.card.proofs.parcels.vertices_at.Statement.{statement}
 use Rattle.card.proofs.parcels.vertices_at.Tie as tie
 use Rattle.card.proofs.parcels.vertices_at.Reads as reads
 use Rattle.card.proofs.parcels.vertices_at.Lts as lts
-use Rattle.card.proofs.bytes.u16_at.Reads as u16-at-reads
+use Rattle.endian.proofs.u16_at.Reads as u16-at-reads
 use Rattle.card.proofs.parcels.rings_at.Reads as rings-at-reads
 
 rings-at-requires : tie.Need-rings-at-requires

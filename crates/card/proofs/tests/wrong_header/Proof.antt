@@ -13,7 +13,7 @@ use Rattle.card.proofs.tests.wrong_header.Statement.{statement}
 use Rattle.card.proofs.tests.wrong_header.Tie as tie
 use Rattle.card.proofs.tests.wrong_header.Reads as reads
 use Rattle.card.proofs.tests.wrong_header.Lts as lts
-use Rattle.card.proofs.bytes.u16_at.Reads as u16-at-reads
+use Rattle.endian.proofs.u16_at.Reads as u16-at-reads
 
 same : (b : List ℕ) {p r v : ℕ} → p ≡ parcelCount b → r ≡ ringCount b → v ≡ vertexCount b
     → not (eqb (length b) (12 + 4 * p + 2 * r + 8 * v)) ≡ not (eqb (length b) (lengthOf (parcelCount b) (ringCount b) (vertexCount b)))

@@ -13,7 +13,7 @@ use Rattle.card.proofs.tests.wrong_parcels.Statement.{statement}
 use Rattle.card.proofs.tests.wrong_parcels.Tie as tie
 use Rattle.card.proofs.tests.wrong_parcels.Reads as reads
 use Rattle.card.proofs.tests.wrong_parcels.Lts as lts
-use Rattle.card.proofs.bytes.u16_at.Reads as u16-at-reads
+use Rattle.endian.proofs.u16_at.Reads as u16-at-reads
 use Rattle.card.proofs.parcels.first_ring.Reads as first-ring-reads
 use Rattle.card.proofs.parcels.parcel_count.Reads as parcel-count-reads
 use Rattle.card.proofs.tests.wrong_entry.Reads as wrong-entry-reads

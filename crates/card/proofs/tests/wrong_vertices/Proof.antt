@@ -11,7 +11,7 @@ use Rattle.card.proofs.tests.wrong_vertices.Statement.{statement}
 use Rattle.card.proofs.tests.wrong_vertices.Tie as tie
 use Rattle.card.proofs.tests.wrong_vertices.Reads as reads
 use Rattle.card.proofs.tests.wrong_vertices.Lts as lts
-use Rattle.card.proofs.bytes.u16_at.Reads as u16-at-reads
+use Rattle.endian.proofs.u16_at.Reads as u16-at-reads
 use Rattle.card.proofs.parcels.first_vertex.Reads as first-vertex-reads
 use Rattle.card.proofs.parcels.parcel_count.Reads as parcel-count-reads
 

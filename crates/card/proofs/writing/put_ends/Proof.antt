@@ -8,14 +8,14 @@ use Rattle.sheet.specs.Layout.{slots}
 use Rattle.sheet.specs.Slots.{parcelAt}
 use Rattle.sheet.specs.Steps.{slotsOf}
 use Rattle.card.specs.Write.{endBytes}
-use Rattle.card.specs.Steps.{placed, wordBytes}
+use Rattle.endian.specs.Placed.{placed, wordBytes}
 use Rattle.card.proofs.Parts.{Running, running-none, running-room, running-more, running-all}
 use borrow.Author.Needs.{needs}
 use Rattle.card.proofs.writing.put_ends.Statement.{statement}
 use Rattle.card.proofs.writing.put_ends.Tie as tie
 use Rattle.card.proofs.writing.put_ends.Reads as reads
 use Rattle.card.proofs.writing.put_ends.Lts as lts
-use Rattle.card.proofs.bytes.put_words.Reads as put-words-reads
+use Rattle.endian.proofs.put_words.Reads as put-words-reads
 use Rattle.sheet.proofs.storage.ends_at.Reads as ends-at-reads
 
 abbrev Inv-loop : tie.InvT-loop

@@ -5,17 +5,17 @@ use native.Mathlib.Omega.{arith}
 use lib.ListN.{length}
 use Rattle.sheet.specs.Slots.{parcelAt}
 use Rattle.sheet.specs.Steps.{slotsOf}
-use Rattle.card.specs.Bytes.{u16Bytes}
+use Rattle.endian.specs.Bytes.{u16Bytes}
 use Rattle.card.specs.Write.{entryBytes}
-use Rattle.card.specs.Steps.{placed}
-use Rattle.card.proofs.Placed.{placed-append}
+use Rattle.endian.specs.Placed.{placed}
+use Rattle.endian.proofs.Placed.{placed-append}
 use Rattle.card.proofs.Parts.{entry-none, entry-some}
 use borrow.Author.Needs.{needs}
 use Rattle.card.proofs.writing.put_entry.Statement.{statement}
 use Rattle.card.proofs.writing.put_entry.Tie as tie
 use Rattle.card.proofs.writing.put_entry.Reads as reads
 use Rattle.card.proofs.writing.put_entry.Lts as lts
-use Rattle.card.proofs.bytes.put_u16.Reads as put-u16-reads
+use Rattle.endian.proofs.put_u16.Reads as put-u16-reads
 use Rattle.sheet.proofs.storage.ring_count.Reads as ring-count-reads
 
 -- the slot is not empty

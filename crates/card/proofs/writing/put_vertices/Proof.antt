@@ -4,7 +4,7 @@ use lib.ListN.{take, drop}
 use Rattle.outline.specs.Region.{lastEnd}
 use Rattle.sheet.specs.Layout.{room}
 use Rattle.sheet.specs.Slots.{endsOf, numbersOf}
-use Rattle.card.specs.Steps.{placed, numberBytes}
+use Rattle.endian.specs.Placed.{placed, numberBytes}
 use Rattle.card.proofs.Parts.{numbers-are, numbers-size, numbers-count}
 use mathlib.Core.Path.{_≡_, sym, _∙_, ap}
 use Prim.Native.Nat.{ℕ, _+_, _*_, _-_, _≤_}
@@ -20,7 +20,7 @@ use Rattle.card.proofs.writing.put_vertices.Statement.{statement}
 use Rattle.card.proofs.writing.put_vertices.Tie as tie
 use Rattle.card.proofs.writing.put_vertices.Reads as reads
 use Rattle.card.proofs.writing.put_vertices.Lts as lts
-use Rattle.card.proofs.bytes.put_numbers.Reads as put-numbers-reads
+use Rattle.endian.proofs.put_numbers.Reads as put-numbers-reads
 use Rattle.outline.proofs.last_end.Reads as last-end-reads
 use Rattle.sheet.proofs.storage.ends_at.Reads as ends-at-reads
 use Rattle.sheet.proofs.storage.numbers_at.Reads as numbers-at-reads

@@ -6,7 +6,7 @@ use Rattle.desk.proofs.input.take_line.Statement.{statement}
 use Rattle.desk.proofs.input.take_line.Tie as tie
 use Rattle.desk.proofs.input.take_line.Reads as reads
 use Rattle.desk.proofs.input.take_line.Lts as lts
-use Rattle.desk.proofs.fronts.bytes.Reads as bytes-reads
+use Rattle.requests.proofs.fronts.bytes.Reads as bytes-reads
 use Rattle.desk.proofs.input.keep.Reads as keep-reads
 
 abbrev Inv-loop : tie.InvT-loop

@@ -4,7 +4,7 @@ use mathlib.Core.List.{List}
 use Prim.Native.Nat.{ℕ, _+_, _-_, _≤_}
 use native.Mathlib.Omega.{arith}
 use lib.ListN.{length}
-use Rattle.card.specs.Bytes.{joined}
+use Rattle.endian.specs.Bytes.{joined}
 use Rattle.card.proofs.Parts.{Running, running-none, running-room, running-more, running-all}
 use Rattle.listing.specs.Steps.{nameStep}
 use Rattle.listing.proofs.Putting.{put-as}
