@@ -10,10 +10,12 @@ use borrow.Author.Tests.{eq-eqb}
 use Rattle.sheet.specs.Layout.{Sheet, Parcel, layout, slots}
 use Rattle.sheet.specs.Slots.{parcelAt, wrongLists}
 use Rattle.card.specs.Reading.{parcelIn}
+use Rattle.card.specs.Good.{GoodCard}
 use Rattle.card.specs.Load as Load
 use Rattle.card.specs.Load.{cardNumber, loadNumber}
 use Rattle.card.specs.Write.{cardOf}
 use Rattle.card.proofs.Good.{good-tests}
+use Rattle.card.proofs.GoodMeans.{good-means}
 use Rattle.hire.proofs.Sound.{Sound, sound-card}
 use Rattle.card.proofs.Lengths.{card-same}
 use Rattle.hire.proofs.RoundTrip.{written-parcel, written-good}
@@ -38,8 +40,9 @@ module _ (cs : List Call) where
       load-written s (parcelAt (afterRun cs)) w (λ i h. rw (sheet-parcel i h) (standing-sound cs i))
       ∙ layout-same (parcelAt (afterRun cs)) (standing cs) sheet-parcel ∙ sym (run-layout cs)
 
-pub load-then-write : (s : Sheet) (b : List ℕ) → wrongLists s ≡ false → cardNumber b ≡ 0 → ((j : ℕ) → getD b j 0 < 256) → cardOf (parcelAt (Load.load s b)) ≡ b
+pub load-then-write : (s : Sheet) (b : List ℕ) → wrongLists s ≡ false → GoodCard b → ((j : ℕ) → getD b j 0 < 256) → cardOf (parcelAt (Load.load s b)) ≡ b
 unfolding Load.load loadNumber
-load-then-write s b w g low =
+load-then-write s b w good low =
+    let g = good-means b .1 good in
     rw (w, eq-eqb (cardNumber b) 0 g)
     (card-same (parcelAt (layout (parcelIn b))) (parcelIn b) (λ i h. layout-parcel (parcelIn b) i h (sound-card b i g)) ∙ one-form b (good-tests b g) low)

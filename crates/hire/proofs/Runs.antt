@@ -26,6 +26,7 @@ use Rattle.sheet.specs.Changes.{putNumber, removeNumber, clearNumber, withParce
 use Rattle.card.specs.Reading.{parcelIn}
 use Rattle.card.specs.Load as Load
 use Rattle.card.specs.Load.{cardNumber, loadNumber}
+use Rattle.card.proofs.GoodMeans.{good-means}
 use Rattle.hire.specs.Runs.{Call, put, remove, clear, load, afterRun, AcceptedPut, Spares, put-elsewhere, put-refused, removed-elsewhere, load-refused, Stands, just-put, just-loaded, still, instead, standing, putParcel, fresh}
 use Rattle.outline.proofs.Fits.{accepted-fits}
 use Rattle.hire.proofs.Sound.{Sound, sound-card}
@@ -195,11 +196,11 @@ spared cs i (put-elsewhere j xs ends ne) = go (taken j xs ends)
     go false = refl
 spared cs i (put-refused j xs ends refused) = simp (is-false (taken j xs ends) (λ t. refused (taken-means j xs ends .0 t)))
 spared cs i (removed-elsewhere j ne) = simp (ne-eqb i j (λ e. ne (sym e)))
-spared cs i (load-refused card ne) = simp (ne-eqb (cardNumber card) 0 ne)
+spared cs i (load-refused card ne) = simp (ne-eqb (cardNumber card) 0 (λ e. ne (good-means card .0 e)))
 
 stands-back : {cs : List Call} {i : ℕ} {xs : List ℤ} {ends : List ℕ} → Stands cs i xs ends → standing cs i ≡ outline xs ends
 stands-back (just-put cs i xs ends a) = simp (taken-means i xs ends .1 a, eq-eqb i i refl)
-stands-back (just-loaded cs card i xs ends g e) = simp (eq-eqb (cardNumber card) 0 g) e
+stands-back (just-loaded cs card i xs ends g e) = simp (eq-eqb (cardNumber card) 0 (good-means card .1 g)) e
 stands-back (still cs c i xs ends s h) = spared cs i s ∙ stands-back h
 
 -- the parts of an outline
@@ -236,8 +237,8 @@ stands-there (load card ∷ cs) i xs ends e = go (eqb (cardNumber card) 0) refl 
   where
     go : (t : Bool) → eqb (cardNumber card) 0 ≡ t → (standing cs i ≡ outline xs ends → Stands cs i xs ends)
         → (pick t (parcelIn card) (standing cs)) i ≡ outline xs ends → Stands (load card ∷ cs) i xs ends
-    go true q rec h = just-loaded cs card i xs ends (eqb-true (cardNumber card) 0 q) h
-    go false q rec h = still cs (load card) i xs ends (load-refused card (eqb-false (cardNumber card) 0 q)) (rec h)
+    go true q rec h = just-loaded cs card i xs ends (good-means card .0 (eqb-true (cardNumber card) 0 q)) h
+    go false q rec h = still cs (load card) i xs ends (load-refused card (λ g. eqb-false (cardNumber card) 0 q (good-means card .1 g))) (rec h)
 
 pub standing-means : (cs : List Call) (i : ℕ) (xs : List ℤ) (ends : List ℕ) → (standing cs i ≡ outline xs ends) ↔ Stands cs i xs ends
 standing-means cs i xs ends = (stands-there cs i xs ends, stands-back)

@@ -23,6 +23,7 @@ use Rattle.outline.specs.Check.{checkOf, numberOf}
 use Rattle.sheet.specs.Layout.{Sheet, Parcel, nothing, outline, slots}
 use Rattle.sheet.specs.Changes as Changes
 use Rattle.card.specs.Reading.{parcelIn}
+use Rattle.card.specs.Good.{GoodCard}
 use Rattle.card.specs.Load as Load
 use Rattle.card.specs.Load.{cardNumber}
 
@@ -49,11 +50,11 @@ pub data Spares (i : ℕ) : Call → Type 0 where
   put-elsewhere : (j : ℕ) (xs : List ℤ) (ends : List ℕ) → j ≢ i → Spares i (put j xs ends)
   put-refused : (j : ℕ) (xs : List ℤ) (ends : List ℕ) → (AcceptedPut j xs ends → ⊥) → Spares i (put j xs ends)
   removed-elsewhere : (j : ℕ) → j ≢ i → Spares i (remove j)
-  load-refused : (card : List ℕ) → cardNumber card ≢ 0 → Spares i (load card)
+  load-refused : (card : List ℕ) → (GoodCard card → ⊥) → Spares i (load card)
 
 pub data Stands : List Call → ℕ → List ℤ → List ℕ → Type 0 where
   just-put : (cs : List Call) (i : ℕ) (xs : List ℤ) (ends : List ℕ) → AcceptedPut i xs ends → Stands (put i xs ends ∷ cs) i xs ends
-  just-loaded : (cs : List Call) (card : List ℕ) (i : ℕ) (xs : List ℤ) (ends : List ℕ) → cardNumber card ≡ 0 → parcelIn card i ≡ outline xs ends
+  just-loaded : (cs : List Call) (card : List ℕ) (i : ℕ) (xs : List ℤ) (ends : List ℕ) → GoodCard card → parcelIn card i ≡ outline xs ends
       → Stands (load card ∷ cs) i xs ends
   still : (cs : List Call) (c : Call) (i : ℕ) (xs : List ℤ) (ends : List ℕ) → Spares i c → Stands cs i xs ends → Stands (c ∷ cs) i xs ends
 
