@@ -11,10 +11,10 @@ use lib.IntN.{pos}
 use Rattle.plane.specs.Folds.{sumTo}
 use Rattle.plane.proofs.Folds.{sum-same}
 use Rattle.outline.specs.Region.{lastEnd}
-use Rattle.sheet.specs.Layout.{Parcel, nothing, outline, slots}
+use Rattle.slots.specs.Layout.{Parcel, nothing, outline, slots}
 use Rattle.endian.specs.Bytes.{u16Bytes, i32Bytes, joined}
 use Rattle.endian.proofs.Joined.{length-joined, sum-const, joined-same}
-use Rattle.card.specs.Layout.{parcelsAt, ringsAt, verticesAt, lengthOf}
+use Rattle.parcels.specs.Layout.{parcelsAt, ringsAt, verticesAt, lengthOf}
 use Rattle.card.specs.Write.{stands, ringsOf, verticesOf, entryBytes, endBytes, vertexBytes, parcelTotal, ringTotal, vertexTotal, cardOf}
 
 -- a sum of multiples

@@ -1,12 +1,6 @@
-pub mod Good
 pub mod Lengths
-pub mod FirstNumber
-pub mod GoodMeans
-pub mod Bounds
-pub mod Sums
-pub mod Filling
-pub mod CardTests
 pub mod Loading
+pub mod Loads
 pub mod Parts
 pub mod WholeCard
 pub mod Only

@@ -16,16 +16,17 @@ use borrow.Author.Tests.{ltb-true, lt-ltb, le-ltb, eqb-true, eq-eqb, ne-eqb}
 use Rattle.plane.specs.Choice.{pick}
 use Rattle.plane.proofs.Folds.{first-hit, first-passes}
 use Rattle.outline.proofs.Check.{accepted-means}
-use Rattle.sheet.specs.Layout.{Sheet, Parcel, nothing, outline, layout}
-use Rattle.sheet.specs.Slots.{wrongLists}
+use Rattle.slots.specs.Layout.{Sheet, Parcel, nothing, outline, layout}
+use Rattle.slots.specs.Slots.{wrongLists}
 use Rattle.sheet.specs.Changes.{putNumber, put, clearNumber, clear}
-use Rattle.sheet.specs.Steps.{Stands}
-use Rattle.sheet.proofs.Slots.{right-lists, lists-right}
+use Rattle.slots.specs.Steps.{Stands}
+use Rattle.slots.proofs.Slots.{right-lists, lists-right}
 use Rattle.sheet.proofs.Standing.{came, layout-lists, layout-undamaged, layout-with, layout-same}
-use Rattle.card.specs.Reading.{parcelCount, slotAt, endsAt, numbersAt, entryOf, parcelIn}
-use Rattle.card.specs.Load.{cardNumber, loadNumber, load}
+use Rattle.parcels.specs.Reading.{parcelCount, slotAt, endsAt, numbersAt, entryOf, parcelIn}
+use Rattle.parcels.specs.CardNumber.{cardNumber}
+use Rattle.card.specs.Load.{loadNumber, load}
 use Rattle.card.specs.Steps.{loaded}
-use Rattle.card.proofs.Good.{Good, good-tests, card-accepts, slot-small, slots-rise}
+use Rattle.parcels.proofs.Good.{Good, good-tests, card-accepts, slot-small, slots-rise}
 
 pub loaded-none : (b : List ℕ) → layout (λ i. nothing) ≡ layout (loaded b 0)
 unfolding loaded

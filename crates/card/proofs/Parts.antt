@@ -1,32 +1,30 @@
 -- A card, written part by part.
 --   counted         an undamaged sheet's counts and last ends are those of a card
 --   entry-none, entry-some, end-bytes, vertex-bytes     the bytes of what stands in a slot, by its record and its room
---   Running, running-none, running-more, running-room, running-all     a loop that stores f 0, f 1 .. at a running place
 --   totals-are      the totals, by the records
 use mathlib.Core.Path.{_≡_, refl, sym, _∙_, ap}
 use mathlib.Core.Logic.{_≢_}
 use mathlib.Core.Bool.{Bool, true, false}
 use mathlib.Core.List.{List, [], _++_}
-use Prim.Native.Nat.{ℕ, zero, suc, _+_, _*_, _≤_, _<_}
+use Prim.Native.Nat.{ℕ, _+_, _*_, _≤_, _<_}
 use native.Mathlib.Omega.{arith}
-use native.Mathlib.Decide.{ℕ-discrete}
 use lib.Dec.{eqb}
 use lib.IntN.{ℤ, pos}
-use lib.ListN.{length, getD, length-append}
+use lib.ListN.{length, getD}
 use borrow.Author.Tests.{eqb-true, eq-eqb, ne-eqb}
 use Rattle.plane.specs.Choice.{pick}
 use Rattle.plane.proofs.Folds.{sum-same}
 use Rattle.outline.specs.Region.{lastEnd}
-use Rattle.sheet.specs.Layout.{Sheet, sheetOf, nothing, outline, slots, room, record-length}
-use Rattle.sheet.specs.Slots.{countOf, endsOf, numbersOf, parcelAt}
-use Rattle.sheet.specs.Steps.{Whole, slotsOf}
-use Rattle.sheet.proofs.Blocks.{part-length}
-use Rattle.sheet.proofs.SlotCells.{slot-few, slot-low}
+use Rattle.slots.specs.Layout.{Sheet, sheetOf, nothing, outline, slots, room, record-length}
+use Rattle.slots.specs.Slots.{countOf, endsOf, numbersOf, parcelAt}
+use Rattle.slots.specs.Steps.{Whole, slotsOf}
+use Rattle.slots.proofs.Blocks.{part-length}
+use Rattle.slots.proofs.SlotCells.{slot-few, slot-low}
 use Rattle.endian.specs.Bytes.{u16Bytes, i32Bytes, joined}
 use Rattle.card.specs.Write.{stands, ringsOf, verticesOf, entryBytes, endBytes, vertexBytes, parcelTotal, ringTotal, vertexTotal}
-use Rattle.endian.specs.Placed.{placed, wordBytes, numberBytes}
+use Rattle.endian.specs.Placed.{wordBytes, numberBytes}
 use Rattle.card.specs.Steps.{Counted, stood, totalsOf}
-use Rattle.endian.proofs.Placed.{Placing, placing-none, placing-more, placing-all, joined-more, length-same}
+use Rattle.endian.proofs.Placed.{length-same}
 
 pub counted : (xs : List ℤ) (records : List ℕ) → Whole xs records → Counted records
 counted xs records w =
@@ -121,42 +119,6 @@ words-size l = length-same (λ k. u16Bytes (getD l k 0)) 2 (λ k. refl) (length 
 
 pub numbers-size : (l : List ℤ) → length (numberBytes l (length l)) ≡ 4 * length l
 numbers-size l = length-same (λ k. i32Bytes (getD l k (pos 0))) 4 (λ k. refl) (length l)
-
--- ---- a loop
-joined-le : (f : ℕ → List ℕ) (n k : ℕ) → k < n → length (joined f k) + length (f k) ≤ length (joined f n)
-unfolding joined
-joined-le f zero k l = absurd (omega arith)
-joined-le f (suc n) k l =
-    elim (ℕ-discrete k n) [
-      | yes e ↦ rw e (omega (arith, length-append (joined f n) (f n)))
-      | no e ↦ omega (arith, length-append (joined f n) (f n), joined-le f n k (omega arith))
-    ]
-
-abbrev pub Running : (ℕ → List ℕ) → (from n : ℕ) → List ℕ → ℕ → List ℕ → ℕ → Type 0
-Running f from n b₀ k b at = Placing f from n b₀ k b × (at ≡ from + length (joined f k))
-
-module _ (f : ℕ → List ℕ) (from n : ℕ) (b₀ : List ℕ) where
-  pub running-none : Running f from n b₀ 0 b₀ from
-  unfolding joined
-  running-none = (placing-none f from n b₀, (let e : from ≡ from + 0 = omega arith in e))
-
-  -- there is room for one more
-  pub running-room : (k : ℕ) (b : List ℕ) (at : ℕ) → k < n → from + length (joined f n) ≤ length b₀ → Running f from n b₀ k b at → at + length (f k) ≤ length b
-  running-room k b at l h r = omega (arith, r .1, r .0 .1, joined-le f n k l)
-
-  pub running-more : (k : ℕ) (b : List ℕ) (at : ℕ) {c : List ℕ} {to : ℕ} → k < n → Running f from n b₀ k b at → c ≡ placed b at (f k) → to ≡ at + length (f k) → Running f from n b₀ (k + 1) c to
-  running-more k b at l r e t = (
-    placing-more f from n b₀ k b at l (r .0) (r .1) e,
-    t ∙ ap (λ (z : ℕ). z + length (f k)) (r .1) ∙ assoc from (length (joined f k)) (length (f k)) ∙ ap (λ (z : ℕ). from + z) (sym (length-append (joined f k) (f k)) ∙ ap length (joined-more f k)),
-  )
-    where
-      assoc : (a b c : ℕ) → a + b + c ≡ a + (b + c)
-      assoc a b c = omega arith
-
-  pub running-all : (k : ℕ) (b : List ℕ) (at : ℕ) → n ≤ k → Running f from n b₀ k b at → (b ≡ placed b₀ from (joined f n)) × (at ≡ from + length (joined f n))
-  running-all k b at h r =
-      let e : k ≡ n = omega (arith, r .0 .0) in
-      (placing-all f from n b₀ k b h (r .0), r .1 ∙ ap (λ (m : ℕ). from + length (joined f m)) e)
 
 -- ---- the totals
 module _ (xs : List ℤ) (records relations : List ℕ) (few : Counted records) where

@@ -13,13 +13,13 @@ use lib.ListN.{length}
 use borrow.Author.Tests.{lt-ltb, le-ltb}
 use Rattle.plane.proofs.Folds.{sum-le}
 use Rattle.outline.specs.Region.{lastEnd}
-use Rattle.sheet.specs.Layout.{Sheet, sheetOf, Parcel, slots}
-use Rattle.sheet.specs.Slots.{countOf, endsOf, parcelAt, damaged, wrongLists}
-use Rattle.sheet.specs.Steps.{slotsOf}
+use Rattle.slots.specs.Layout.{Sheet, sheetOf, Parcel, slots}
+use Rattle.slots.specs.Slots.{countOf, endsOf, parcelAt, damaged, wrongLists}
+use Rattle.slots.specs.Steps.{slotsOf}
 use Rattle.card.specs.declared.Written.{Written}
 use Rattle.card.specs.declared.Totals.{Totals}
 use Rattle.endian.specs.Bytes.{u16Bytes, joined}
-use Rattle.card.specs.Layout.{parcelsAt, ringsAt, verticesAt, lengthOf}
+use Rattle.parcels.specs.Layout.{parcelsAt, ringsAt, verticesAt, lengthOf}
 use Rattle.card.specs.Write.{entryBytes, endBytes, parcelTotal, ringTotal, vertexTotal, cardOf, writeNumber, written, write}
 use Rattle.endian.specs.Placed.{placed, wordBytes}
 use Rattle.card.specs.Steps.{Counted, stood, totalsOf, headerOf, entriesTo, endsTo, verticesTo}

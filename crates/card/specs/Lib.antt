@@ -1,6 +1,3 @@
-pub mod Layout
-pub mod Reading
-pub mod Good
 pub mod Load
 pub mod Write
 pub mod Steps

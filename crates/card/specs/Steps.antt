@@ -1,13 +1,10 @@
 -- What the functions behind the calls compute, and what they may rely on. No promise hangs on these names: proofs/ shows that the steps
 -- together are the calls of specs/Load and specs/Write.
---   RightParcels b          the card keeps rules 14 and 15: every ring entry is there
---   RightVertices b         it keeps rules 2, 3 and 16 too: every vertex is there
 --   loaded b n i            what the first n parcels of the card b put into slot i
 --   Counted records         the ring counts and the last ends of an undamaged sheet
 --   totalsOf records        how many parcels, rings and vertices stand;  headerOf t  the numbers of the header
 --   entriesTo st n, endsTo st n, verticesTo st n     the three parts of a card, as far as the first n slots
 use mathlib.Core.Path.{_≡_}
-use mathlib.Core.Bool.{false}
 use mathlib.Core.List.{List, [], _∷_}
 use Prim.Native.Nat.{ℕ, _/_, _≤_, _<_}
 use lib.Dec.{ltb, eqb}
@@ -15,24 +12,14 @@ use lib.ListN.{length}
 use Rattle.plane.specs.Choice.{pick}
 use Rattle.plane.specs.Folds.{sumTo}
 use Rattle.outline.specs.Region.{mostRings, mostVertices, lastEnd}
-use Rattle.sheet.specs.Layout.{Parcel, nothing, outline, slots, records-length}
-use Rattle.sheet.specs.Slots.{countOf, endsOf}
-use Rattle.sheet.specs.Steps.{slotsOf}
+use Rattle.slots.specs.Layout.{Parcel, nothing, outline, slots, records-length}
+use Rattle.slots.specs.Slots.{countOf, endsOf}
+use Rattle.slots.specs.Steps.{slotsOf}
 use Rattle.card.specs.declared.Totals.{Totals}
 use Rattle.endian.specs.Bytes.{joined}
-use Rattle.card.specs.Layout.{parcelsAt, ringsAt, verticesAt}
+use Rattle.parcels.specs.Layout.{parcelsAt, ringsAt, verticesAt}
 use Rattle.card.specs.Write.{entryBytes, endBytes, vertexBytes}
-use Rattle.card.specs.Reading.{parcelCount, endsAt, numbersAt, entryOf}
-use Rattle.card.specs.Load.{wrongHeader, wrongParcels, sizesNumber, wrongVertices}
-
-pub record RightParcels (b : List ℕ) : Type 0 where
-  pub header : wrongHeader b ≡ false
-  pub parcels : wrongParcels b ≡ false
-
-pub record RightVertices (b : List ℕ) : Type 0 where
-  pub parcels : RightParcels b
-  pub sizes : (k : ℕ) → k < parcelCount b → sizesNumber b k ≡ 0
-  pub vertices : wrongVertices b ≡ false
+use Rattle.parcels.specs.Reading.{endsAt, numbersAt, entryOf}
 
 unfoldable pub loaded : List ℕ → ℕ → ℕ → Parcel
 loaded b n i = pick (ltb (entryOf b i) n) (outline (numbersAt b (entryOf b i)) (endsAt b (entryOf b i))) nothing

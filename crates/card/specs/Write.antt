@@ -12,11 +12,11 @@ use Rattle.plane.specs.Choice.{pick}
 use Rattle.plane.specs.Folds.{sumTo}
 use Rattle.outline.specs.Refusals.{number, sheet-lists, sheet-damaged, buffer-short}
 use Rattle.outline.specs.Region.{lastEnd}
-use Rattle.sheet.specs.Layout.{Sheet, Parcel, nothing, outline, slots}
-use Rattle.sheet.specs.Slots.{parcelAt, damaged, wrongLists}
+use Rattle.slots.specs.Layout.{Sheet, Parcel, nothing, outline, slots}
+use Rattle.slots.specs.Slots.{parcelAt, damaged, wrongLists}
 use Rattle.card.specs.declared.Written.{Written}
 use Rattle.endian.specs.Bytes.{u16Bytes, i32Bytes, joined}
-use Rattle.card.specs.Layout.{parcelsAt, ringsAt, verticesAt}
+use Rattle.parcels.specs.Layout.{parcelsAt, ringsAt, verticesAt}
 
 abbrev pub stands : Parcel → ℕ
 stands nothing = 0

@@ -2,32 +2,30 @@
 ghost use mathlib.Core.Path.{_≡_};
 ghost use mathlib.Core.Bool.{false};
 ghost use Prim.Native.Nat.{_<_};
-ghost use Rattle.sheet.specs.Layout.{sheetOf, layout};
-ghost use Rattle.sheet.specs.Slots.{wrongLists};
+ghost use Rattle.slots.specs.Layout.{sheetOf, layout};
+ghost use Rattle.slots.specs.Slots.{wrongLists};
 ghost use Rattle.sheet.specs.Changes.{put};
-ghost use Rattle.card.specs.Reading.{parcelCount, slotAt, endsAt, numbersAt, parcelIn};
-ghost use Rattle.card.specs.Load.{cardNumber, loadNumber, load};
+ghost use Rattle.parcels.specs.Reading.{parcelCount, slotAt, endsAt, numbersAt, parcelIn};
+ghost use Rattle.parcels.specs.CardNumber.{cardNumber};
+ghost use Rattle.card.specs.Load.{loadNumber, load};
 ghost use Rattle.card.specs.Write.{written, write};
+use outline::refusals::BUFFER_SHORT;
+use outline::refusals::SHEET_DAMAGED;
+use outline::refusals::SHEET_LISTS;
 use parcels::PARCELS_AT;
 use parcels::parcel_count;
 use parcels::read_ends;
 use parcels::read_numbers;
 use parcels::slot_at;
-use sheet::SHEET_DAMAGED;
-use sheet::SHEET_LISTS;
+use parcels::tests::card_number;
 use sheet::clear;
-use sheet::damage::sheet_damaged;
 use sheet::put;
 use sheet::wrong_lists;
-use tests::card_number;
+use slots::damage::sheet_damaged;
 use writing::count_all;
 use writing::put_card;
 
-pub mod parcels;
-pub mod tests;
 mod writing;
-
-pub const BUFFER_SHORT: u16 = 10;
 
 // What writing a card answers: 0 and the card's length, or the number of the refusal and 0.
 pub struct Written {

@@ -3,22 +3,22 @@ ghost use mathlib.Core.Path.{_≡_};
 ghost use mathlib.Core.List.{[]};
 ghost use Prim.Native.Nat.{_+_, _*_, _≤_, _<_};
 ghost use lib.ListN.{length};
-ghost use Rattle.sheet.specs.Layout.{slots, coordinates-length};
-ghost use Rattle.sheet.specs.Slots.{parcelAt};
-ghost use Rattle.sheet.specs.Steps.{slotsOf};
+ghost use Rattle.slots.specs.Layout.{slots, coordinates-length};
+ghost use Rattle.slots.specs.Slots.{parcelAt};
+ghost use Rattle.slots.specs.Steps.{slotsOf};
 ghost use Rattle.card.specs.Write.{entryBytes, cardOf};
 ghost use Rattle.endian.specs.Placed.{placed, wordBytes};
 ghost use Rattle.card.specs.Steps.{Counted, stood, totalsOf, headerOf, entriesTo, endsTo, verticesTo};
 use crate::Totals;
-use crate::parcels::PARCELS_AT;
 use endian::put_numbers;
 use endian::put_u16;
 use endian::put_words;
 use outline::last_end;
-use sheet::storage::SLOTS;
-use sheet::storage::ends_at;
-use sheet::storage::numbers_at;
-use sheet::storage::ring_count;
+use parcels::PARCELS_AT;
+use slots::storage::SLOTS;
+use slots::storage::ends_at;
+use slots::storage::numbers_at;
+use slots::storage::ring_count;
 
 // A slot with rings has one parcel.
 fn stood(rings: usize) -> usize

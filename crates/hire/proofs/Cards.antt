@@ -7,15 +7,16 @@ use mathlib.Core.List.{List}
 use Prim.Native.Nat.{ℕ, _<_}
 use lib.ListN.{getD}
 use borrow.Author.Tests.{eq-eqb}
-use Rattle.sheet.specs.Layout.{Sheet, Parcel, layout, slots}
-use Rattle.sheet.specs.Slots.{parcelAt, wrongLists}
-use Rattle.card.specs.Reading.{parcelIn}
-use Rattle.card.specs.Good.{GoodCard}
+use Rattle.slots.specs.Layout.{Sheet, Parcel, layout, slots}
+use Rattle.slots.specs.Slots.{parcelAt, wrongLists}
+use Rattle.parcels.specs.Reading.{parcelIn}
+use Rattle.parcels.specs.Good.{GoodCard}
 use Rattle.card.specs.Load as Load
-use Rattle.card.specs.Load.{cardNumber, loadNumber}
+use Rattle.parcels.specs.CardNumber.{cardNumber}
+use Rattle.card.specs.Load.{loadNumber}
 use Rattle.card.specs.Write.{cardOf}
-use Rattle.card.proofs.Good.{good-tests}
-use Rattle.card.proofs.GoodMeans.{good-means}
+use Rattle.parcels.proofs.Good.{good-tests}
+use Rattle.parcels.proofs.GoodMeans.{good-means}
 use Rattle.hire.proofs.Sound.{Sound, sound-card}
 use Rattle.card.proofs.Lengths.{card-same}
 use Rattle.hire.proofs.RoundTrip.{written-parcel, written-good}

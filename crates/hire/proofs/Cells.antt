@@ -24,7 +24,7 @@ use Rattle.relation.proofs.Relation.{region-in-range, region-upright, region-bo
 use Rattle.matrix.specs.Matrix.{matrixOf}
 use Rattle.matrix.specs.Directions.{directionsOf, opposite}
 use Rattle.matrix.proofs.Directions.{pair-opposite}
-use Rattle.sheet.specs.Layout.{Sheet, Parcel, nothing, outline, cellOf, layout, selfCell, slots, relations-length}
+use Rattle.slots.specs.Layout.{Sheet, Parcel, nothing, outline, cellOf, layout, selfCell, slots, relations-length}
 use Rattle.hire.specs.Runs.{Call, afterRun, Stands, standing}
 use Rattle.hire.proofs.Runs.{standing-sound, run-layout, standing-means}
 

@@ -3,11 +3,11 @@ use mathlib.Core.Path.{_≡_}
 use mathlib.Core.Bool.{false}
 use Prim.Native.Nat.{ℕ, _<_}
 use Rattle.outline.proofs.Check.{accepted-means}
-use Rattle.sheet.specs.Layout.{Parcel, nothing, outline, recordAt, layout, slots}
-use Rattle.sheet.specs.Slots.{countOf, parcelAt, damaged, wrongLists}
+use Rattle.slots.specs.Layout.{Parcel, nothing, outline, recordAt, layout, slots}
+use Rattle.slots.specs.Slots.{countOf, parcelAt, damaged, wrongLists}
 use Rattle.sheet.specs.Changes.{withParcel}
-use Rattle.sheet.specs.Steps.{Stands}
-use Rattle.sheet.proofs.Slots.{right-lists, count-read}
+use Rattle.slots.specs.Steps.{Stands}
+use Rattle.slots.proofs.Slots.{right-lists, count-read}
 use Rattle.sheet.proofs.Standing as Standing
 use Rattle.hire.proofs.Sound.{Sound}
 use Rattle.hire.specs.Runs.{instead}

@@ -18,16 +18,16 @@ use Rattle.plane.specs.Folds.{sumTo, firstOf}
 use Rattle.plane.proofs.Folds.{first-below, first-passes}
 use Rattle.plane.proofs.Lists.{getD-tab}
 use Rattle.outline.specs.Region.{lastEnd}
-use Rattle.sheet.specs.Layout.{Parcel, nothing, outline, slots}
+use Rattle.slots.specs.Layout.{Parcel, nothing, outline, slots}
 use Rattle.endian.specs.Bytes.{u16At, i32At, u16Bytes, i32Bytes}
-use Rattle.card.specs.Layout.{parcelsAt, ringsAt, verticesAt}
-use Rattle.card.specs.Reading.{parcelCount, ringCount, vertexCount, slotAt, countAt, firstRing, firstVertex, entryOf, parcelIn, endsAt, numbersAt}
+use Rattle.parcels.specs.Layout.{parcelsAt, ringsAt, verticesAt}
+use Rattle.parcels.specs.Reading.{parcelCount, ringCount, vertexCount, slotAt, countAt, firstRing, firstVertex, entryOf, parcelIn, endsAt, numbersAt}
 use Rattle.card.specs.Write.{stands, ringsOf, verticesOf, entryBytes, endBytes, vertexBytes, parcelTotal, ringTotal, vertexTotal, cardOf}
 use Rattle.endian.proofs.Joined.{sum-const}
 use Rattle.card.proofs.Lengths.{E, N, X, entries-to, ends-to, vertices-to as bytes-to, entries-length, ends-length, written-length}
 use Rattle.hire.proofs.Held.{Held, held-append, join-held, held-u16, held-i32}
-use Rattle.card.proofs.Good.{Good, slot-small, ring-total, slots-rise}
-use Rattle.card.proofs.Bounds.{Header, header-means}
+use Rattle.parcels.proofs.Good.{Good, slot-small, ring-total, slots-rise}
+use Rattle.parcels.proofs.Bounds.{Header, header-means}
 use Rattle.hire.proofs.WrittenCard.{before}
 
 plus-none : (a : ℕ) → a + 0 ≡ a

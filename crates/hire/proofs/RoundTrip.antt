@@ -15,18 +15,18 @@ use borrow.Author.Tests.{eq-eqb, ne-eqb, lt-ltb, le-ltb}
 use Rattle.plane.specs.Choice.{pick}
 use Rattle.plane.specs.Folds.{sumTo}
 use Rattle.plane.proofs.Folds.{first-hit, first-none}
-use Rattle.sheet.specs.Layout.{Parcel, nothing, outline, slots}
+use Rattle.slots.specs.Layout.{Parcel, nothing, outline, slots}
 use Rattle.outline.specs.declared.Checked.the-variants.{Accepted}
 use Rattle.outline.specs.Region.{lastEnd}
 use Rattle.outline.specs.Rules.{KeepsRules}
 use Rattle.outline.specs.Check.{checkOf}
 use Rattle.outline.proofs.Check.{accepted-means}
 use Rattle.outline.proofs.Fits.{Fits, accepted-fits}
-use Rattle.card.specs.Layout.{parcelsAt, ringsAt, verticesAt}
-use Rattle.card.specs.Reading.{parcelCount, slotAt, countAt, firstRing, firstVertex, entryOf, parcelIn, endsAt, numbersAt}
-use Rattle.card.specs.Load.{cardNumber}
+use Rattle.parcels.specs.Layout.{parcelsAt, ringsAt, verticesAt}
+use Rattle.parcels.specs.Reading.{parcelCount, slotAt, countAt, firstRing, firstVertex, entryOf, parcelIn, endsAt, numbersAt}
+use Rattle.parcels.specs.CardNumber.{cardNumber}
 use Rattle.card.specs.Write.{stands, parcelTotal, ringTotal, vertexTotal, cardOf}
-use Rattle.card.proofs.GoodMeans.{good-means}
+use Rattle.parcels.proofs.GoodMeans.{good-means}
 use Rattle.card.proofs.Lengths.{written-length}
 use Rattle.hire.proofs.Held.{u16-held}
 use Rattle.hire.proofs.Sound.{Sound}

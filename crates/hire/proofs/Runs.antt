@@ -19,14 +19,15 @@ use Rattle.outline.specs.declared.Checked.{Checked}
 use Rattle.outline.specs.declared.Checked.the-variants.{Accepted, Refused}
 use Rattle.outline.specs.Check.{checkOf, numberOf}
 use Rattle.outline.proofs.Check.{accepted-means, refused-means}
-use Rattle.sheet.specs.Layout.{Sheet, Parcel, nothing, outline, layout, slots, recordAt}
-use Rattle.sheet.specs.Slots.{countOf}
+use Rattle.slots.specs.Layout.{Sheet, Parcel, nothing, outline, layout, slots, recordAt}
+use Rattle.slots.specs.Slots.{countOf}
 use Rattle.sheet.specs.Changes as Changes
 use Rattle.sheet.specs.Changes.{putNumber, removeNumber, clearNumber, withParcel}
-use Rattle.card.specs.Reading.{parcelIn}
+use Rattle.parcels.specs.Reading.{parcelIn}
 use Rattle.card.specs.Load as Load
-use Rattle.card.specs.Load.{cardNumber, loadNumber}
-use Rattle.card.proofs.GoodMeans.{good-means}
+use Rattle.parcels.specs.CardNumber.{cardNumber}
+use Rattle.card.specs.Load.{loadNumber}
+use Rattle.parcels.proofs.GoodMeans.{good-means}
 use Rattle.hire.specs.Runs.{Call, put, remove, clear, load, afterRun, AcceptedPut, Spares, put-elsewhere, put-refused, removed-elsewhere, load-refused, Stands, just-put, just-loaded, still, instead, standing, putParcel, fresh}
 use Rattle.outline.proofs.Fits.{accepted-fits}
 use Rattle.hire.proofs.Sound.{Sound, sound-card}

@@ -10,10 +10,10 @@ use borrow.Author.Tests.{ltb-true}
 use Rattle.plane.specs.Choice.{pick}
 use Rattle.outline.specs.declared.Checked.the-variants.{Accepted}
 use Rattle.outline.specs.Check.{checkOf}
-use Rattle.sheet.specs.Layout.{Parcel, nothing, outline}
-use Rattle.card.specs.Reading.{parcelCount, entryOf, parcelIn, numbersAt, endsAt}
-use Rattle.card.specs.Load.{cardNumber}
-use Rattle.card.proofs.Good.{good-tests, card-accepts}
+use Rattle.slots.specs.Layout.{Parcel, nothing, outline}
+use Rattle.parcels.specs.Reading.{parcelCount, entryOf, parcelIn, numbersAt, endsAt}
+use Rattle.parcels.specs.CardNumber.{cardNumber}
+use Rattle.parcels.proofs.Good.{good-tests, card-accepts}
 
 abbrev pub Sound : Parcel → Type 0
 Sound nothing = Unit {0}

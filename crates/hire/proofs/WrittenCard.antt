@@ -24,10 +24,10 @@ use Rattle.outline.proofs.Check.{accepted-means}
 use Rattle.outline.proofs.Fits.{Fits, accepted-fits, end-small}
 use Rattle.relation.specs.Relation.{KeepsFirstFour}
 use Rattle.relation.proofs.Relation.{region-in-range}
-use Rattle.sheet.specs.Layout.{Parcel, nothing, outline, slots}
+use Rattle.slots.specs.Layout.{Parcel, nothing, outline, slots}
 use Rattle.endian.specs.Bytes.{u16At, i32At, u16Bytes, i32Bytes, joined}
-use Rattle.card.specs.Layout.{parcelsAt, ringsAt, verticesAt}
-use Rattle.card.specs.Reading.{parcelCount, ringCount, vertexCount, slotAt, countAt, firstRing, endsAt, firstVertex, numbersAt}
+use Rattle.parcels.specs.Layout.{parcelsAt, ringsAt, verticesAt}
+use Rattle.parcels.specs.Reading.{parcelCount, ringCount, vertexCount, slotAt, countAt, firstRing, endsAt, firstVertex, numbersAt}
 use Rattle.card.specs.Write.{stands, ringsOf, verticesOf, entryBytes, endBytes, vertexBytes, parcelTotal, ringTotal, vertexTotal, cardOf}
 use Rattle.endian.proofs.Joined.{sum-const}
 use Rattle.card.proofs.Lengths.{E, N, X, entries-to, ends-to, vertices-to, entries-length, ends-length}

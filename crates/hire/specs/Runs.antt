@@ -20,12 +20,12 @@ use Rattle.plane.specs.Choice.{pick}
 use Rattle.plane.specs.Folds.{turns}
 use Rattle.outline.specs.Rules.{KeepsRules}
 use Rattle.outline.specs.Check.{checkOf, numberOf}
-use Rattle.sheet.specs.Layout.{Sheet, Parcel, nothing, outline, slots}
+use Rattle.slots.specs.Layout.{Sheet, Parcel, nothing, outline, slots}
 use Rattle.sheet.specs.Changes as Changes
-use Rattle.card.specs.Reading.{parcelIn}
-use Rattle.card.specs.Good.{GoodCard}
+use Rattle.parcels.specs.Reading.{parcelIn}
+use Rattle.parcels.specs.Good.{GoodCard}
 use Rattle.card.specs.Load as Load
-use Rattle.card.specs.Load.{cardNumber}
+use Rattle.parcels.specs.CardNumber.{cardNumber}
 
 pub data Call : Type 0 where
   put : ℕ → List ℤ → List ℕ → Call

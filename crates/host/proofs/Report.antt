@@ -10,8 +10,8 @@ use lib.ListN.{length, getD, drop}
 use borrow.Author.Tests.{lt-ltb, le-ltb, eq-eqb, ne-eqb}
 use Rattle.pair.specs.declared.Answer.{Answer}
 use Rattle.endian.specs.Bytes.{u16Bytes}
-use Rattle.card.specs.Reading.{parcelCount}
-use Rattle.card.specs.Load.{cardNumber}
+use Rattle.parcels.specs.Reading.{parcelCount}
+use Rattle.parcels.specs.CardNumber.{cardNumber}
 use Rattle.endian.specs.Placed.{placed, wordBytes}
 use Rattle.endian.proofs.Placed.{length-same, placed-whole}
 use Rattle.host.specs.Report.{reportWords, pairIn, hostNumber, hostReport}

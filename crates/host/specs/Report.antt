@@ -15,8 +15,8 @@ use Rattle.outline.specs.Refusals.{number, buffer-short, not-two-parcels}
 use Rattle.pair.specs.declared.Answer.{Answer}
 use Rattle.pair.specs.Answer.{pairOf}
 use Rattle.endian.specs.Bytes.{u16Bytes, joined}
-use Rattle.card.specs.Reading.{parcelCount, endsAt, numbersAt}
-use Rattle.card.specs.Load.{cardNumber}
+use Rattle.parcels.specs.Reading.{parcelCount, endsAt, numbersAt}
+use Rattle.parcels.specs.CardNumber.{cardNumber}
 
 abbrev pub reportLength : ℕ
 reportLength = 38

@@ -2,20 +2,19 @@
 ghost use mathlib.Core.Path.{_≡_};
 ghost use Prim.Native.Nat.{_<_, _≤_};
 ghost use lib.ListN.{length};
-ghost use Rattle.card.specs.Reading.{parcelCount};
-ghost use Rattle.card.specs.Load.{cardNumber};
+ghost use Rattle.parcels.specs.Reading.{parcelCount};
+ghost use Rattle.parcels.specs.CardNumber.{cardNumber};
 ghost use Rattle.endian.specs.Placed.{placed, wordBytes};
 ghost use Rattle.host.specs.Report.{reportLength, reportWords, pairIn, hostNumber, hostReport};
-use card::BUFFER_SHORT;
-use card::parcels::parcel_count;
-use card::parcels::read_ends;
-use card::parcels::read_numbers;
-use card::tests::card_number;
 use endian::put_words;
+use outline::refusals::BUFFER_SHORT;
+use outline::refusals::NOT_TWO_PARCELS;
 use pair::Answer;
 use pair::pair_of;
-
-const NOT_TWO_PARCELS: u16 = 17;
+use parcels::parcel_count;
+use parcels::read_ends;
+use parcels::read_numbers;
+use parcels::tests::card_number;
 
 const REPORT_LENGTH: usize = 38;
 

@@ -19,10 +19,10 @@ use borrow.Author.Tests.{eq-eqb, ne-eqb}
 use Rattle.plane.specs.Choice.{pick}
 use Rattle.pair.specs.declared.Answer.{Answer}
 use Rattle.endian.specs.Bytes.{joined}
-use Rattle.card.specs.Reading.{parcelCount, slotAt}
-use Rattle.card.specs.Load.{cardNumber}
-use Rattle.card.proofs.Good.{good-tests}
-use Rattle.card.proofs.Bounds.{header-means}
+use Rattle.parcels.specs.Reading.{parcelCount, slotAt}
+use Rattle.parcels.specs.CardNumber.{cardNumber}
+use Rattle.parcels.proofs.Good.{good-tests}
+use Rattle.parcels.proofs.Bounds.{header-means}
 use Rattle.host.specs.Report.{pairIn}
 use Rattle.listing.specs.Names.{namesOf, B, O}
 use Rattle.listing.specs.Listing.{space, lineFeed, decimal, parcelsWord, refusedWord, pairLine, lineOf, listing}

@@ -12,8 +12,8 @@ use lib.Dec.{ltb, eqb}
 use Rattle.plane.specs.Choice.{pick}
 use Rattle.pair.specs.declared.Answer.{Answer}
 use Rattle.endian.specs.Bytes.{joined}
-use Rattle.card.specs.Reading.{parcelCount, slotAt}
-use Rattle.card.specs.Load.{cardNumber}
+use Rattle.parcels.specs.Reading.{parcelCount, slotAt}
+use Rattle.parcels.specs.CardNumber.{cardNumber}
 use Rattle.host.specs.Report.{pairIn}
 use Rattle.io.specs.Digits.{digits}
 use Rattle.listing.specs.Names.{namesOf, B, O}

@@ -3,18 +3,18 @@ ghost use mathlib.Core.Path.{_≡_};
 ghost use Prim.Native.Nat.{_+_, _≤_, _<_};
 ghost use lib.ListN.{length};
 ghost use Rattle.endian.specs.Bytes.{joined};
-ghost use Rattle.card.specs.Reading.{parcelCount};
-ghost use Rattle.card.specs.Load.{cardNumber};
+ghost use Rattle.parcels.specs.Reading.{parcelCount};
+ghost use Rattle.parcels.specs.CardNumber.{cardNumber};
 ghost use Rattle.listing.specs.Listing.{pairLine, lineOf};
 ghost use Rattle.listing.specs.Steps.{Put, rowOf};
 use crate::names::put_set;
 use crate::texts::LINE_FEED;
 use crate::texts::SPACE;
 use crate::texts::put_number;
-use card::parcels::parcel_count;
-use card::parcels::slot_at;
 use host::pair_in;
 use pair::Answer;
+use parcels::parcel_count;
+use parcels::slot_at;
 
 // Bit 4 is written B in tiles, and O in directions.
 const TILES_MIDDLE: u8 = 66;

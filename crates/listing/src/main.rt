@@ -8,11 +8,11 @@ mod lines;
 mod names;
 mod texts;
 
-use card::parcels::parcel_count;
-use card::tests::card_number;
 use libc::STDIN_FILENO;
 use libc::STDOUT_FILENO;
 use lines::put_rows;
+use parcels::parcel_count;
+use parcels::tests::card_number;
 use texts::LINE_FEED;
 use texts::put_number;
 use texts::put_text;

@@ -29,7 +29,7 @@ use Rattle.ring.specs.RingTiles.{edgesHave, ringHas, ringPieces}
 use Rattle.relation.specs.Relation.{regionBox, regionHas, relationOf, regionPieces}
 use Rattle.matrix.specs.Holding.{insert, linesOf, cellAt, rangeOf, holds}
 use Rattle.matrix.specs.Matrix.{cellValue, matrixOf, flatOf}
-use Rattle.sheet.specs.Layout.{Sheet, Parcel, cellOf, slots, relations-length}
+use Rattle.slots.specs.Layout.{Sheet, Parcel, cellOf, slots, relations-length}
 use Rattle.sheet.specs.Changes.{standing, withParcel}
 use Rattle.outlines.specs.Rows.{Outline, square, corner, apart, triangle, crossed, large, ring}
 

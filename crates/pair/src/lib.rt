@@ -9,12 +9,11 @@ use matrix::grid_of;
 use matrix::matrix_of;
 use outline::Checked;
 use outline::check_region;
+use outline::refusals::NO_TILE;
 use plane::Box;
 use relation::region_box;
 use relation::region_part;
 use ring::Part;
-
-const NO_TILE: u16 = 13;
 
 // The eight directions without O.
 const EIGHT: u16 = 495;

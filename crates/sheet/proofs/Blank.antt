@@ -9,11 +9,11 @@ use lib.IntN.{ℤ, pos}
 use lib.ListN.{length, replicate, length-replicate, getD-replicate}
 use Rattle.plane.specs.Lists.{tab}
 use Rattle.plane.proofs.Lists.{tab-all}
-use Rattle.sheet.specs.Layout.{Sheet, sheetOf, layout, coordinates-length, records-length, relations-length}
-use Rattle.sheet.specs.Slots.{wrongLists}
+use Rattle.slots.specs.Layout.{Sheet, sheetOf, layout, coordinates-length, records-length, relations-length}
+use Rattle.slots.specs.Slots.{wrongLists}
 use Rattle.sheet.specs.Changes.{blank, clearNumber, clear}
-use Rattle.sheet.specs.Steps.{RightLists}
-use Rattle.sheet.proofs.Slots.{lists-right}
+use Rattle.slots.specs.Steps.{RightLists}
+use Rattle.slots.proofs.Slots.{lists-right}
 
 fill-tab : {A : Type 0} (a : A) (n : ℕ) → replicate n a ≡ tab (λ k. a) n
 fill-tab a n = tab-all (λ k. a) a n (replicate n a) (length-replicate n a) (λ k l. getD-replicate n k a a l)

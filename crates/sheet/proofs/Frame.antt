@@ -8,10 +8,10 @@ use lib.Dec.{eqb}
 use lib.IntN.{ℤ}
 use borrow.Author.Tests.{eqb-true}
 use Rattle.plane.specs.Choice.{pick}
-use Rattle.sheet.specs.Layout.{Sheet, Parcel, nothing, outline}
+use Rattle.slots.specs.Layout.{Sheet, Parcel, nothing, outline}
 use Rattle.sheet.specs.Changes.{withParcel, putNumber, put, removeNumber, remove}
 use Rattle.sheet.specs.Frame.{TouchesOnly}
-use Rattle.sheet.specs.Steps.{RightLists}
+use Rattle.slots.specs.Steps.{RightLists}
 use Rattle.sheet.proofs.Written.{with-lists, number-frame, entry-frame, cell-frame}
 use Rattle.sheet.proofs.Numbers.{put-ready, remove-ready}
 

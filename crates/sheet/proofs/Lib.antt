@@ -1,11 +1,4 @@
 pub mod Readings
-pub mod Stores
-pub mod Blocks
-pub mod Cross
-pub mod Slots
-pub mod Undamaged
-pub mod SlotTests
-pub mod SlotCells
 pub mod Written
 pub mod Standing
 pub mod Blank

@@ -23,11 +23,11 @@ use Rattle.outline.specs.Rules.{Breaks, KeepsRules}
 use Rattle.outline.proofs.Check.{accepted-means, refused-means}
 use Rattle.relation.specs.Relation.{KeepsFirstFour}
 use Rattle.relation.proofs.Relation.{some-ring}
-use Rattle.sheet.specs.Layout.{Sheet, nothing, outline, slots}
-use Rattle.sheet.specs.Slots.{countOf, damaged, wrongLists}
+use Rattle.slots.specs.Layout.{Sheet, nothing, outline, slots}
+use Rattle.slots.specs.Slots.{countOf, damaged, wrongLists}
 use Rattle.sheet.specs.Changes.{withParcel, putNumber, put, removeNumber, remove}
-use Rattle.sheet.specs.Steps.{RightLists, parcelOf, Stands, Ready, changeNumber}
-use Rattle.sheet.proofs.Slots.{lists-right}
+use Rattle.slots.specs.Steps.{RightLists, parcelOf, Stands, Ready, changeNumber}
+use Rattle.slots.proofs.Slots.{lists-right}
 
 -- ---- 11, 8 and 12
 pub record Changeable (s : Sheet) (i : ℕ) : Type 0 where

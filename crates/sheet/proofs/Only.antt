@@ -5,7 +5,7 @@
 use mathlib.Core.Path.{_≡_, sym, _∙_}
 use Prim.Native.Nat.{ℕ}
 use Rattle.sheet.specs.declared.Reading.{Reading}
-use Rattle.sheet.specs.Layout.{sheetOf}
+use Rattle.slots.specs.Layout.{sheetOf}
 use Rattle.sheet.proofs.put.Reads as put-reads
 use Rattle.sheet.proofs.remove.Reads as remove-reads
 use Rattle.sheet.proofs.clear.Reads as clear-reads

@@ -17,7 +17,7 @@ use borrow.Author.Tests.{eqb-true, eqb-false, ltb-false, eq-eqb, ne-eqb}
 use Rattle.plane.specs.Choice.{pick}
 use Rattle.plane.specs.Folds.{sumTo}
 use Rattle.plane.specs.TileSet.{bit}
-use Rattle.sheet.specs.Layout.{slots, records-length, relations-length}
+use Rattle.slots.specs.Layout.{slots, records-length, relations-length}
 use Rattle.sheet.specs.Readings.{emptyAt, readNumber, rowOf}
 
 -- ---- the number

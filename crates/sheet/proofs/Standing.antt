@@ -13,13 +13,13 @@ use lib.IntN.{pos}
 use lib.ListN.{getD}
 use Rattle.plane.specs.Choice.{pick}
 use Rattle.plane.proofs.Lists.{length-tab, getD-tab, tab-same}
-use Rattle.sheet.specs.Layout.{sheetOf, Parcel, numberAt, recordAt, cellOf, layout, slots, room, record-length, coordinates-length, records-length, relations-length}
-use Rattle.sheet.specs.Slots.{parcelAt, damaged}
+use Rattle.slots.specs.Layout.{sheetOf, Parcel, numberAt, recordAt, cellOf, layout, slots, room, record-length, coordinates-length, records-length, relations-length}
+use Rattle.slots.specs.Slots.{parcelAt, damaged}
 use Rattle.sheet.specs.Changes.{standing, withParcel}
-use Rattle.sheet.specs.Steps.{RightLists, Stands}
-use Rattle.sheet.proofs.Blocks.{block-read}
-use Rattle.sheet.proofs.Slots.{Holds, count-read, parcel-read}
-use Rattle.sheet.proofs.Undamaged.{undamaged-means}
+use Rattle.slots.specs.Steps.{RightLists, Stands}
+use Rattle.slots.proofs.Blocks.{block-read}
+use Rattle.slots.proofs.Slots.{Holds, count-read, parcel-read}
+use Rattle.slots.proofs.Undamaged.{undamaged-means}
 use Rattle.sheet.proofs.Written.{stands-few}
 
 -- what stands once p has come into slot i

@@ -1,9 +1,7 @@
 -- The steps that write a parcel, and what they come to.
---   record-first, record-later, record-past    the numbers of a record, as a function answers them
 --   whole-written    once the room and the record are written, the slots are undamaged
 --   written          once the row and the column are written too, it is the sheet with that parcel in its slot
 use mathlib.Core.Path.{_≡_, refl, sym, ap, ap₂, _∙_, subst₂, fun-ext}
-use mathlib.Core.Logic.{_≢_}
 use mathlib.Core.Bool.{Bool, true, false, _||_}
 use mathlib.Core.List.{List, []}
 use Prim.Native.Nat.{ℕ, zero, suc, _+_, _-_, _*_, _/_, _%_, _<_, _≤_}
@@ -17,25 +15,13 @@ use Rattle.plane.specs.Folds.{turns}
 use Rattle.plane.specs.Lists.{tab, stores}
 use Rattle.plane.proofs.Lists.{tab-same}
 use Rattle.outline.specs.Region.{mostRings}
-use Rattle.sheet.specs.Layout.{Sheet, sheetOf, Parcel, nothing, outline, numberAt, recordAt, cellOf, slots, room, record-length, coordinates-length, records-length, relations-length}
-use Rattle.sheet.specs.Slots.{parcelAt, damagedAt, damaged}
+use Rattle.slots.specs.Layout.{Sheet, sheetOf, Parcel, nothing, outline, numberAt, recordAt, cellOf, slots, room, record-length, coordinates-length, records-length, relations-length}
+use Rattle.slots.specs.Slots.{parcelAt, damagedAt, damaged}
 use Rattle.sheet.specs.Changes.{standing, withParcel}
-use Rattle.sheet.specs.Steps.{slotsOf, parcelOf, Stands, Whole, Ready, cellAt, crossed}
-use Rattle.sheet.proofs.Blocks.{stores-block}
-use Rattle.sheet.proofs.Cross.{cross-tab}
+use Rattle.slots.specs.Steps.{slotsOf, parcelOf, Stands, Whole, Ready, cellAt, crossed}
+use Rattle.slots.proofs.Blocks.{stores-block}
+use Rattle.slots.proofs.Cross.{cross-tab}
 use Rattle.sheet.proofs.Written.{stands-few, with-lists, with-undamaged, parcel-standing}
-
--- ---- a record
-module _ (xs : List ℤ) (ends : List ℕ) where
-  pub record-first : (k : ℕ) → k ≡ 0 → length ends ≡ recordAt (outline xs ends) k
-  record-first k e = rw e refl
-
-  pub record-later : (k : ℕ) → k ≢ 0 → getD ends (k - 1) 0 ≡ recordAt (outline xs ends) k
-  record-later zero e = absurd (e refl)
-  record-later (suc k) e = let q : suc k - 1 ≡ k = omega arith in ap (λ (j : ℕ). getD ends j 0) q
-
-  pub record-past : (k : ℕ) → k ≢ 0 → length ends ≤ k - 1 → 0 ≡ recordAt (outline xs ends) k
-  record-past k e h = sym (List·getD-eq-default ends 0 h) ∙ record-later k e
 
 -- ---- two lent lists as a parcel
 parcel-entry : (xs : List ℤ) (ends : List ℕ) (k : ℕ) → recordAt (outline [] ends) k ≡ recordAt (parcelOf xs ends) k

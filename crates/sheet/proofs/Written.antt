@@ -19,13 +19,13 @@ use Rattle.plane.specs.Choice.{pick}
 use Rattle.plane.specs.Lists.{tab}
 use Rattle.plane.proofs.Lists.{length-tab, getD-tab}
 use Rattle.outline.specs.Region.{mostRings}
-use Rattle.sheet.specs.Layout.{Sheet, Parcel, nothing, outline, numberAt, recordAt, cellOf, slots, room, record-length, coordinates-length, records-length, relations-length}
-use Rattle.sheet.specs.Slots.{countOf, parcelAt, damaged}
+use Rattle.slots.specs.Layout.{Sheet, Parcel, nothing, outline, numberAt, recordAt, cellOf, slots, room, record-length, coordinates-length, records-length, relations-length}
+use Rattle.slots.specs.Slots.{countOf, parcelAt, damaged}
 use Rattle.sheet.specs.Changes.{standing, withParcel}
-use Rattle.sheet.specs.Steps.{RightLists, Stands}
-use Rattle.sheet.proofs.Blocks.{block-of, place-in}
-use Rattle.sheet.proofs.Slots.{sized, Holds, count-read, parcel-read, Agree, count-same, parcel-same}
-use Rattle.sheet.proofs.Undamaged.{undamaged-means}
+use Rattle.slots.specs.Steps.{RightLists, Stands}
+use Rattle.slots.proofs.Blocks.{block-of, place-in}
+use Rattle.slots.proofs.Slots.{sized, Holds, count-read, parcel-read, Agree, count-same, parcel-same}
+use Rattle.slots.proofs.Undamaged.{undamaged-means}
 
 -- a table of which only the places that pass a test differ from a list
 module _ {A : Type 0} (d : A) (t : ℕ → Bool) (f : ℕ → A) (l : List A) (n : ℕ) where

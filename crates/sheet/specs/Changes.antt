@@ -15,8 +15,8 @@ use Rattle.plane.specs.Choice.{pick}
 use Rattle.plane.specs.Lists.{tab}
 use Rattle.outline.specs.Refusals.{number, slot-number, slot-empty, sheet-lists, sheet-damaged}
 use Rattle.outline.specs.Check.{checkOf, numberOf}
-use Rattle.sheet.specs.Layout.{Sheet, Parcel, nothing, outline, numberAt, recordAt, cellOf, layout, slots, room, record-length, coordinates-length, records-length, relations-length}
-use Rattle.sheet.specs.Slots.{countOf, parcelAt, damaged, wrongLists}
+use Rattle.slots.specs.Layout.{Sheet, Parcel, nothing, outline, numberAt, recordAt, cellOf, layout, slots, room, record-length, coordinates-length, records-length, relations-length}
+use Rattle.slots.specs.Slots.{countOf, parcelAt, damaged, wrongLists}
 
 abbrev pub standing : Sheet → ℕ → Parcel → ℕ → Parcel
 standing s i p k = pick (eqb k i) p (parcelAt s k)

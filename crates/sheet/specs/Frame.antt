@@ -6,7 +6,7 @@ use mathlib.Core.Logic.{_≢_}
 use Prim.Native.Nat.{ℕ, _/_, _%_}
 use lib.ListN.{length, getD}
 use lib.IntN.{pos}
-use Rattle.sheet.specs.Layout.{Sheet, slots, room, record-length}
+use Rattle.slots.specs.Layout.{Sheet, slots, room, record-length}
 
 pub record TouchesOnly (i : ℕ) (s t : Sheet) : Type 0 where
   pub coordinate-list : length (t .coordinates) ≡ length (s .coordinates)

@@ -16,7 +16,7 @@ use Rattle.plane.specs.TileSet.{bit}
 use Rattle.outline.specs.Refusals.{number, slot-number, slot-empty, sheet-lists}
 use Rattle.sheet.specs.declared.Reading.{Reading}
 use Rattle.sheet.specs.declared.Reading.the-variants.{Relation, Refused}
-use Rattle.sheet.specs.Layout.{slots, record-length, records-length, relations-length}
+use Rattle.slots.specs.Layout.{slots, record-length, records-length, relations-length}
 
 abbrev pub emptyAt : List ℕ → ℕ → Bool
 emptyAt records i = eqb (getD records (record-length * i) 0) 0

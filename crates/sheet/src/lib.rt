@@ -5,39 +5,30 @@ ghost use mathlib.Core.List.{[]};
 ghost use Prim.Native.Nat.{_+_, _*_, _<_};
 ghost use denote.Ref.{ptr};
 ghost use lib.ListN.{length};
-ghost use Rattle.outline.specs.Check.{numberOf};
-ghost use Rattle.sheet.specs.Layout.{sheetOf};
-ghost use Rattle.sheet.specs.Slots.{wrongLists};
+ghost use Rattle.slots.specs.Layout.{sheetOf};
+ghost use Rattle.slots.specs.Slots.{wrongLists};
 ghost use Rattle.sheet.specs.Changes.{withParcel, putNumber, put, removeNumber, remove, clearNumber, clear};
 ghost use Rattle.sheet.specs.Readings.{readNumber, readingOf, rowOf, rowStart, tilesOf};
-ghost use Rattle.sheet.specs.Steps.{Ready, parcelOf, changeNumber};
-use cells::relate;
-use damage::sheet_damaged;
+ghost use Rattle.slots.specs.Steps.{Ready, parcelOf, changeNumber};
 use outline::Checked;
 use outline::check_region;
-use storage::COORDINATES;
-use storage::RECORD;
-use storage::RECORDS;
-use storage::RELATIONS;
-use storage::SLOTS;
-use storage::ring_count;
-use storage::write_record;
-use storage::write_room;
-use zeros::zero_i32;
-use zeros::zero_u16;
-
-mod cells;
-pub mod damage;
-pub mod storage;
-mod zeros;
-
-pub const SLOT_NUMBER: u16 = 8;
-
-pub const SLOT_EMPTY: u16 = 9;
-
-pub const SHEET_LISTS: u16 = 11;
-
-pub const SHEET_DAMAGED: u16 = 12;
+use outline::number_of;
+use outline::refusals::SHEET_DAMAGED;
+use outline::refusals::SHEET_LISTS;
+use outline::refusals::SLOT_EMPTY;
+use outline::refusals::SLOT_NUMBER;
+use slots::cells::relate;
+use slots::damage::sheet_damaged;
+use slots::storage::COORDINATES;
+use slots::storage::RECORD;
+use slots::storage::RECORDS;
+use slots::storage::RELATIONS;
+use slots::storage::SLOTS;
+use slots::storage::ring_count;
+use slots::storage::write_record;
+use slots::storage::write_room;
+use slots::zeros::zero_i32;
+use slots::zeros::zero_u16;
 
 const LAST_SLOT: u16 = 31;
 
@@ -77,15 +68,6 @@ fn change_number(xs: &[i32], records: &[u16], relations: &[u16], slot: u16) -> u
         return SHEET_DAMAGED;
     }
     0
-}
-
-pub fn number_of(checked: Checked) -> u16
-    ensures { λ r. ⌜ r ≡ numberOf checked ⌝ }
-{
-    match checked {
-        Checked::Accepted => 0,
-        Checked::Refused { number, ring: _ } => number,
-    }
 }
 
 fn put_number(

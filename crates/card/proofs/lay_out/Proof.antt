@@ -3,18 +3,18 @@ use mathlib.Core.Path.{_≡_, _∙_, ap}
 use Prim.Native.Nat.{ℕ, _≤_, _-_}
 use native.Mathlib.Omega.{arith}
 use lib.ListN.{length}
-use Rattle.sheet.specs.Layout.{Sheet, sheetOf, layout}
+use Rattle.slots.specs.Layout.{Sheet, sheetOf, layout}
 use Rattle.sheet.specs.Changes.{put}
-use Rattle.card.specs.Reading.{slotAt, numbersAt, endsAt}
+use Rattle.parcels.specs.Reading.{slotAt, numbersAt, endsAt}
 use Rattle.card.specs.Steps.{loaded}
-use Rattle.card.proofs.Good.{good-tests}
-use Rattle.card.proofs.Bounds.{header-means}
+use Rattle.parcels.proofs.Good.{good-tests}
+use Rattle.parcels.proofs.Bounds.{header-means}
 use borrow.Author.Needs.{needs}
 use Rattle.card.proofs.lay_out.Statement.{statement}
 use Rattle.card.proofs.lay_out.Tie as tie
 use Rattle.card.proofs.lay_out.Reads as reads
 use Rattle.card.proofs.lay_out.Lts as lts
-use Rattle.card.proofs.parcels.parcel_count.Reads as parcel-count-reads
+use Rattle.parcels.proofs.parcel_count.Reads as parcel-count-reads
 use Rattle.card.proofs.put_parcel.Reads as put-parcel-reads
 use Rattle.sheet.proofs.clear.Reads as clear-reads
 

@@ -3,21 +3,21 @@ use mathlib.Core.List.{List}
 use Prim.Native.Nat.{ℕ}
 use native.Mathlib.Omega.{arith}
 use lib.IntN.{ℤ}
-use Rattle.sheet.specs.Layout.{Sheet, sheetOf}
+use Rattle.slots.specs.Layout.{Sheet, sheetOf}
 use Rattle.sheet.specs.Changes.{put}
-use Rattle.card.specs.Steps.{RightVertices}
-use Rattle.card.proofs.Good.{good-tests}
-use Rattle.card.proofs.Bounds.{VertexPart, entry-there, entry-few, vertices-there}
-use Rattle.card.proofs.CardTests.{good-right}
-use Rattle.card.proofs.Filling.{front}
+use Rattle.parcels.specs.Steps.{RightVertices}
+use Rattle.parcels.proofs.Good.{good-tests}
+use Rattle.parcels.proofs.Bounds.{VertexPart, entry-there, entry-few, vertices-there}
+use Rattle.parcels.proofs.CardTests.{good-right}
+use Rattle.parcels.proofs.Filling.{front}
 use borrow.Author.Needs.{needs}
 use Rattle.card.proofs.put_parcel.Statement.{statement}
 use Rattle.card.proofs.put_parcel.Tie as tie
 use Rattle.card.proofs.put_parcel.Reads as reads
 use Rattle.card.proofs.put_parcel.Lts as lts
-use Rattle.card.proofs.parcels.read_ends.Reads as read-ends-reads
-use Rattle.card.proofs.parcels.read_numbers.Reads as read-numbers-reads
-use Rattle.card.proofs.parcels.slot_at.Reads as slot-at-reads
+use Rattle.parcels.proofs.read_ends.Reads as read-ends-reads
+use Rattle.parcels.proofs.read_numbers.Reads as read-numbers-reads
+use Rattle.parcels.proofs.slot_at.Reads as slot-at-reads
 use Rattle.sheet.proofs.put.Reads as put-reads
 
 three : (f : ℕ → List ℤ → List ℕ → Sheet) {i j : ℕ} {xs ys : List ℤ} {es fs : List ℕ} → i ≡ j → xs ≡ ys → es ≡ fs → f i xs es ≡ f j ys fs

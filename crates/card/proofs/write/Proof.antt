@@ -3,13 +3,13 @@ use mathlib.Core.Bool.{false}
 use Prim.Native.Nat.{_≤_}
 use native.Mathlib.Omega.{arith}
 use lib.ListN.{length}
-use Rattle.sheet.specs.Layout.{sheetOf}
-use Rattle.sheet.specs.Slots.{parcelAt, damaged, wrongLists}
-use Rattle.sheet.specs.Steps.{RightLists}
-use Rattle.sheet.proofs.Slots.{lists-right}
+use Rattle.slots.specs.Layout.{sheetOf}
+use Rattle.slots.specs.Slots.{parcelAt, damaged, wrongLists}
+use Rattle.slots.specs.Steps.{RightLists}
+use Rattle.slots.proofs.Slots.{lists-right}
 use Rattle.sheet.proofs.Steps.{damage-alone}
 use Rattle.card.specs.declared.Totals.{Totals}
-use Rattle.card.specs.Layout.{lengthOf}
+use Rattle.parcels.specs.Layout.{lengthOf}
 use Rattle.card.specs.Write.{cardOf}
 use Rattle.endian.specs.Placed.{placed}
 use Rattle.card.specs.Steps.{Counted}
@@ -22,7 +22,7 @@ use Rattle.card.proofs.write.Reads as reads
 use Rattle.card.proofs.write.Lts as lts
 use Rattle.card.proofs.writing.count_all.Reads as count-all-reads
 use Rattle.card.proofs.writing.put_card.Reads as put-card-reads
-use Rattle.sheet.proofs.damage.sheet_damaged.Reads as sheet-damaged-reads
+use Rattle.slots.proofs.damage.sheet_damaged.Reads as sheet-damaged-reads
 use Rattle.sheet.proofs.wrong_lists.Reads as wrong-lists-reads
 
 -- rule 11 is kept;  and rule 12

@@ -1,17 +1,17 @@
 use mathlib.Core.Path.{_≡_, sym, _∙_}
 use native.Mathlib.Omega.{arith}
-use Rattle.card.specs.Reading.{parcelCount}
-use Rattle.card.specs.Load.{cardNumber}
-use Rattle.card.proofs.Good.{good-tests}
-use Rattle.card.proofs.Bounds.{header-means}
+use Rattle.parcels.specs.Reading.{parcelCount}
+use Rattle.parcels.specs.CardNumber.{cardNumber}
+use Rattle.parcels.proofs.Good.{good-tests}
+use Rattle.parcels.proofs.Bounds.{header-means}
 use Rattle.host.proofs.Report.{report-short, report-card, report-parcels, report-pair, report-done}
 use borrow.Author.Needs.{needs}
 use Rattle.host.proofs.direction_report.Statement.{statement}
 use Rattle.host.proofs.direction_report.Tie as tie
 use Rattle.host.proofs.direction_report.Reads as reads
 use Rattle.host.proofs.direction_report.Lts as lts
-use Rattle.card.proofs.parcels.parcel_count.Reads as parcel-count-reads
-use Rattle.card.proofs.tests.card_number.Reads as card-number-reads
+use Rattle.parcels.proofs.parcel_count.Reads as parcel-count-reads
+use Rattle.parcels.proofs.tests.card_number.Reads as card-number-reads
 use Rattle.host.proofs.pair_in.Reads as pair-in-reads
 use Rattle.host.proofs.put_report.Reads as put-report-reads
 

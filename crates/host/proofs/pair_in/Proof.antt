@@ -4,19 +4,19 @@ use Prim.Native.Nat.{ℕ}
 use native.Mathlib.Omega.{arith}
 use lib.IntN.{ℤ}
 use Rattle.pair.specs.Answer.{pairOf}
-use Rattle.card.specs.Steps.{RightVertices}
+use Rattle.parcels.specs.Steps.{RightVertices}
 use Rattle.host.specs.Report.{pairIn}
-use Rattle.card.proofs.Good.{good-tests}
-use Rattle.card.proofs.Bounds.{VertexPart, entry-few, vertices-there}
-use Rattle.card.proofs.CardTests.{good-right}
-use Rattle.card.proofs.Filling.{front}
+use Rattle.parcels.proofs.Good.{good-tests}
+use Rattle.parcels.proofs.Bounds.{VertexPart, entry-few, vertices-there}
+use Rattle.parcels.proofs.CardTests.{good-right}
+use Rattle.parcels.proofs.Filling.{front}
 use borrow.Author.Needs.{needs}
 use Rattle.host.proofs.pair_in.Statement.{statement}
 use Rattle.host.proofs.pair_in.Tie as tie
 use Rattle.host.proofs.pair_in.Reads as reads
 use Rattle.host.proofs.pair_in.Lts as lts
-use Rattle.card.proofs.parcels.read_ends.Reads as read-ends-reads
-use Rattle.card.proofs.parcels.read_numbers.Reads as read-numbers-reads
+use Rattle.parcels.proofs.read_ends.Reads as read-ends-reads
+use Rattle.parcels.proofs.read_numbers.Reads as read-numbers-reads
 use Rattle.pair.proofs.pair_of.Reads as pair-of-reads
 
 four : {xs xs' ys ys' : List ℤ} {es es' fs fs' : List ℕ} → xs ≡ xs' → es ≡ es' → ys ≡ ys' → fs ≡ fs' → pairOf xs es ys fs ≡ pairOf xs' es' ys' fs'

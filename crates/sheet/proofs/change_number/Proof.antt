@@ -1,7 +1,7 @@
 use mathlib.Core.Path.{refl, sym, _∙_}
 use mathlib.Core.Bool.{true, false}
 use borrow.Author.Tests.{lt-ltb, le-ltb}
-use Rattle.sheet.proofs.Slots.{lists-right}
+use Rattle.slots.proofs.Slots.{lists-right}
 use Rattle.sheet.proofs.Numbers.{change-is}
 use Rattle.sheet.proofs.Steps.{damage-alone}
 use borrow.Author.Needs.{needs}

@@ -1,5 +1,5 @@
 use borrow.Author.Tests.{eq-eqb, ne-eqb}
-use Rattle.sheet.specs.Slots.{wrongLists}
+use Rattle.slots.specs.Slots.{wrongLists}
 use Rattle.sheet.proofs.wrong_lists.Statement.{statement}
 use Rattle.sheet.proofs.wrong_lists.Tie as tie
 

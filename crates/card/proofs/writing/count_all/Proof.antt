@@ -6,11 +6,11 @@ use mathlib.Core.List.{[]}
 use Prim.Native.Nat.{ℕ, _-_}
 use native.Mathlib.Omega.{arith}
 use Rattle.outline.specs.Region.{lastEnd}
-use Rattle.sheet.specs.Layout.{slots}
-use Rattle.sheet.specs.Slots.{countOf, endsOf}
-use Rattle.sheet.specs.Steps.{slotsOf}
+use Rattle.slots.specs.Layout.{slots}
+use Rattle.slots.specs.Slots.{countOf, endsOf}
+use Rattle.slots.specs.Steps.{slotsOf}
 use Rattle.card.specs.Steps.{stood, totalsOf}
-use Rattle.card.proofs.Sums.{Summing, summing-none, summing-more, summing-all}
+use Rattle.parcels.proofs.Sums.{Summing, summing-none, summing-more, summing-all}
 use borrow.Author.Needs.{needs}
 use Rattle.card.proofs.writing.count_all.Statement.{statement}
 use Rattle.card.proofs.writing.count_all.Tie as tie
@@ -18,8 +18,8 @@ use Rattle.card.proofs.writing.count_all.Reads as reads
 use Rattle.card.proofs.writing.count_all.Lts as lts
 use Rattle.card.proofs.writing.stood.Reads as stood-reads
 use Rattle.outline.proofs.last_end.Reads as last-end-reads
-use Rattle.sheet.proofs.storage.ends_at.Reads as ends-at-reads
-use Rattle.sheet.proofs.storage.ring_count.Reads as ring-count-reads
+use Rattle.slots.proofs.storage.ends_at.Reads as ends-at-reads
+use Rattle.slots.proofs.storage.ring_count.Reads as ring-count-reads
 
 abbrev Inv-loop : tie.InvT-loop
 Inv-loop records parcels₀ rings₀ vertices₀ i₀ parcels rings vertices i =

@@ -4,19 +4,19 @@ use mathlib.Core.List.{List, []}
 use Prim.Native.Nat.{ℕ, _+_, _*_, _-_, _≤_}
 use native.Mathlib.Omega.{arith}
 use lib.ListN.{length}
-use Rattle.sheet.specs.Layout.{slots}
-use Rattle.sheet.specs.Slots.{parcelAt}
-use Rattle.sheet.specs.Steps.{slotsOf}
+use Rattle.slots.specs.Layout.{slots}
+use Rattle.slots.specs.Slots.{parcelAt}
+use Rattle.slots.specs.Steps.{slotsOf}
 use Rattle.card.specs.Write.{endBytes}
 use Rattle.endian.specs.Placed.{placed, wordBytes}
-use Rattle.card.proofs.Parts.{Running, running-none, running-room, running-more, running-all}
+use Rattle.endian.proofs.Running.{Running, running-none, running-room, running-more, running-all}
 use borrow.Author.Needs.{needs}
 use Rattle.card.proofs.writing.put_ends.Statement.{statement}
 use Rattle.card.proofs.writing.put_ends.Tie as tie
 use Rattle.card.proofs.writing.put_ends.Reads as reads
 use Rattle.card.proofs.writing.put_ends.Lts as lts
 use Rattle.endian.proofs.put_words.Reads as put-words-reads
-use Rattle.sheet.proofs.storage.ends_at.Reads as ends-at-reads
+use Rattle.slots.proofs.storage.ends_at.Reads as ends-at-reads
 
 abbrev Inv-loop : tie.InvT-loop
 Inv-loop b₀ from records at₀ i₀ b at i = Running (λ j. endBytes (parcelAt (slotsOf [] records) j)) from slots b₀ i b at

@@ -1,11 +1,11 @@
 use mathlib.Core.List.{[]}
 use Prim.Native.Nat.{_-_}
 use native.Mathlib.Omega.{arith}
-use Rattle.sheet.specs.Layout.{slots}
-use Rattle.sheet.specs.Slots.{parcelAt}
-use Rattle.sheet.specs.Steps.{slotsOf}
+use Rattle.slots.specs.Layout.{slots}
+use Rattle.slots.specs.Slots.{parcelAt}
+use Rattle.slots.specs.Steps.{slotsOf}
 use Rattle.card.specs.Write.{entryBytes}
-use Rattle.card.proofs.Parts.{Running, running-none, running-room, running-more, running-all}
+use Rattle.endian.proofs.Running.{Running, running-none, running-room, running-more, running-all}
 use borrow.Author.Needs.{needs}
 use Rattle.card.proofs.writing.put_entries.Statement.{statement}
 use Rattle.card.proofs.writing.put_entries.Tie as tie

@@ -3,8 +3,8 @@ use mathlib.Core.List.{List, [], _++_}
 use Prim.Native.Nat.{ℕ, _+_, _≤_}
 use native.Mathlib.Omega.{arith}
 use lib.ListN.{length}
-use Rattle.sheet.specs.Slots.{parcelAt}
-use Rattle.sheet.specs.Steps.{slotsOf}
+use Rattle.slots.specs.Slots.{parcelAt}
+use Rattle.slots.specs.Steps.{slotsOf}
 use Rattle.endian.specs.Bytes.{u16Bytes}
 use Rattle.card.specs.Write.{entryBytes}
 use Rattle.endian.specs.Placed.{placed}
@@ -16,7 +16,7 @@ use Rattle.card.proofs.writing.put_entry.Tie as tie
 use Rattle.card.proofs.writing.put_entry.Reads as reads
 use Rattle.card.proofs.writing.put_entry.Lts as lts
 use Rattle.endian.proofs.put_u16.Reads as put-u16-reads
-use Rattle.sheet.proofs.storage.ring_count.Reads as ring-count-reads
+use Rattle.slots.proofs.storage.ring_count.Reads as ring-count-reads
 
 -- the slot is not empty
 there : (c : tie.Else1)

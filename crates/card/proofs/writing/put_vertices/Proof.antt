@@ -2,19 +2,19 @@ use mathlib.Core.List.{List}
 use lib.IntN.{ℤ}
 use lib.ListN.{take, drop}
 use Rattle.outline.specs.Region.{lastEnd}
-use Rattle.sheet.specs.Layout.{room}
-use Rattle.sheet.specs.Slots.{endsOf, numbersOf}
+use Rattle.slots.specs.Layout.{room}
+use Rattle.slots.specs.Slots.{endsOf, numbersOf}
 use Rattle.endian.specs.Placed.{placed, numberBytes}
 use Rattle.card.proofs.Parts.{numbers-are, numbers-size, numbers-count}
 use mathlib.Core.Path.{_≡_, sym, _∙_, ap}
 use Prim.Native.Nat.{ℕ, _+_, _*_, _-_, _≤_}
 use native.Mathlib.Omega.{arith}
 use lib.ListN.{length}
-use Rattle.sheet.specs.Layout.{slots}
-use Rattle.sheet.specs.Slots.{parcelAt}
-use Rattle.sheet.specs.Steps.{slotsOf}
+use Rattle.slots.specs.Layout.{slots}
+use Rattle.slots.specs.Slots.{parcelAt}
+use Rattle.slots.specs.Steps.{slotsOf}
 use Rattle.card.specs.Write.{vertexBytes}
-use Rattle.card.proofs.Parts.{Running, running-none, running-room, running-more, running-all}
+use Rattle.endian.proofs.Running.{Running, running-none, running-room, running-more, running-all}
 use borrow.Author.Needs.{needs}
 use Rattle.card.proofs.writing.put_vertices.Statement.{statement}
 use Rattle.card.proofs.writing.put_vertices.Tie as tie
@@ -22,8 +22,8 @@ use Rattle.card.proofs.writing.put_vertices.Reads as reads
 use Rattle.card.proofs.writing.put_vertices.Lts as lts
 use Rattle.endian.proofs.put_numbers.Reads as put-numbers-reads
 use Rattle.outline.proofs.last_end.Reads as last-end-reads
-use Rattle.sheet.proofs.storage.ends_at.Reads as ends-at-reads
-use Rattle.sheet.proofs.storage.numbers_at.Reads as numbers-at-reads
+use Rattle.slots.proofs.storage.ends_at.Reads as ends-at-reads
+use Rattle.slots.proofs.storage.numbers_at.Reads as numbers-at-reads
 
 abbrev Inv-loop : tie.InvT-loop
 Inv-loop b₀ from xs records at₀ i₀ b at i = Running (λ j. vertexBytes (parcelAt (slotsOf xs records) j)) from slots b₀ i b at

@@ -5,7 +5,7 @@ use Prim.Native.Nat.{ℕ, _+_, _-_, _≤_}
 use native.Mathlib.Omega.{arith}
 use lib.ListN.{length}
 use Rattle.endian.specs.Bytes.{joined}
-use Rattle.card.proofs.Parts.{Running, running-none, running-room, running-more, running-all}
+use Rattle.endian.proofs.Running.{Running, running-none, running-room, running-more, running-all}
 use Rattle.listing.specs.Steps.{nameStep}
 use Rattle.listing.proofs.Putting.{put-as}
 use Rattle.listing.proofs.NameSteps.{names-joined}

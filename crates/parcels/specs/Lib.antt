@@ -1,0 +1,5 @@
+pub mod Layout
+pub mod Reading
+pub mod CardNumber
+pub mod Good
+pub mod Steps

@@ -1,0 +1,123 @@
+// The parcels of a card, by its layout.
+ghost use mathlib.Core.Path.{_≡_};
+ghost use mathlib.Core.Bool.{false};
+ghost use Prim.Native.Nat.{_+_, _*_, _≤_, _<_};
+ghost use lib.ListN.{length, take};
+ghost use Rattle.outline.specs.Region.{mostRings, lastEnd};
+ghost use Rattle.slots.specs.Layout.{room};
+ghost use Rattle.parcels.specs.Layout.{parcelsAt, ringsAt, verticesAt};
+ghost use Rattle.parcels.specs.Reading.{parcelCount, ringCount, slotAt, countAt, firstRing, firstVertex, endsAt, numbersAt};
+ghost use Rattle.parcels.specs.CardNumber.{wrongHeader};
+ghost use Rattle.parcels.specs.Steps.{RightParcels, RightVertices};
+use endian::i32_at;
+use endian::u16_at;
+use outline::last_end;
+
+pub mod tests;
+
+pub const PARCELS_AT: usize = 12;
+
+pub fn parcel_count(card: &[u8]) -> usize
+    requires { ⌜ 2 ≤ length (now card) ⌝ }
+    ensures { λ n. ⌜ n ≡ parcelCount (now (card .entry)) ⌝ }
+{
+    u16_at(card, 0) as usize
+}
+
+fn rings_at(card: &[u8]) -> usize
+    requires { ⌜ wrongHeader (now card) ≡ false ⌝ }
+    ensures { λ n. ⌜ n ≡ ringsAt (parcelCount (now (card .entry))) ⌝ }
+{
+    PARCELS_AT + 4 * parcel_count(card)
+}
+
+fn vertices_at(card: &[u8]) -> usize
+    requires { ⌜ wrongHeader (now card) ≡ false ⌝ }
+    ensures { λ n. ⌜ n ≡ verticesAt (parcelCount (now (card .entry))) (ringCount (now (card .entry))) ⌝ }
+{
+    rings_at(card) + 2 * u16_at(card, 2) as usize
+}
+
+pub fn slot_at(card: &[u8], k: usize) -> u16
+    requires { ⌜ parcelsAt + 4 * k + 4 ≤ length (now card) ⌝ }
+    ensures { λ s. ⌜ s ≡ slotAt (now (card .entry)) k ⌝ }
+{
+    u16_at(card, PARCELS_AT + 4 * k)
+}
+
+pub fn count_at(card: &[u8], k: usize) -> usize
+    requires { ⌜ parcelsAt + 4 * k + 4 ≤ length (now card) ⌝ }
+    ensures { λ n. ⌜ n ≡ countAt (now (card .entry)) k ⌝ }
+{
+    u16_at(card, PARCELS_AT + 4 * k + 2) as usize
+}
+
+// How many rings the parcels before k have.
+pub fn first_ring(card: &[u8], k: usize) -> usize
+    requires { ⌜ (wrongHeader (now card) ≡ false) × (k ≤ parcelCount (now card)) ⌝ }
+    ensures { λ n. ⌜ n ≡ firstRing (now (card .entry)) k ⌝ }
+{
+    let mut rings: usize = 0;
+    let mut i = 0;
+    while i < k {
+        rings += count_at(card, i);
+        i += 1;
+    }
+    rings
+}
+
+// The ring ends of parcel k to the front of a list.
+pub fn read_ends(card: &[u8], k: usize, ends: &mut [u16]) -> usize
+    requires { ⌜ RightParcels (now card) × (k < parcelCount (now card)) × (length (now ends) ≡ mostRings) ⌝ }
+    ensures { λ n. ⌜ n ≡ countAt (now (card .entry)) k ⌝ }
+    ensures { λ n. ⌜ take n (now (ends .exit)) ≡ endsAt (now (card .entry)) k ⌝ }
+{
+    let n = count_at(card, k);
+    let from = rings_at(card) + 2 * first_ring(card, k);
+    let mut i = 0;
+    while i < n {
+        ends[i] = u16_at(card, from + 2 * i);
+        i += 1;
+    }
+    n
+}
+
+// How many vertices parcel k has.
+pub fn vertices_of(card: &[u8], k: usize) -> usize
+    requires { ⌜ RightParcels (now card) × (k < parcelCount (now card)) ⌝ }
+    ensures { λ n. ⌜ n ≡ lastEnd (endsAt (now (card .entry)) k) ⌝ }
+{
+    let mut ends = [0u16; 8];
+    let n = read_ends(card, k, &mut ends);
+    last_end(&ends[0..n])
+}
+
+// How many vertices the parcels before k have.
+pub fn first_vertex(card: &[u8], k: usize) -> usize
+    requires { ⌜ RightParcels (now card) × (k ≤ parcelCount (now card)) ⌝ }
+    ensures { λ n. ⌜ n ≡ firstVertex (now (card .entry)) k ⌝ }
+{
+    let mut vertices: usize = 0;
+    let mut i = 0;
+    while i < k {
+        vertices += vertices_of(card, i);
+        i += 1;
+    }
+    vertices
+}
+
+// The coordinates of parcel k to the front of a list.
+pub fn read_numbers(card: &[u8], k: usize, xs: &mut [i32]) -> usize
+    requires { ⌜ RightVertices (now card) × (k < parcelCount (now card)) × (length (now xs) ≡ room) ⌝ }
+    ensures { λ n. ⌜ n ≡ 2 * lastEnd (endsAt (now (card .entry)) k) ⌝ }
+    ensures { λ n. ⌜ take n (now (xs .exit)) ≡ numbersAt (now (card .entry)) k ⌝ }
+{
+    let n = 2 * vertices_of(card, k);
+    let from = vertices_at(card) + 8 * first_vertex(card, k);
+    let mut i = 0;
+    while i < n {
+        xs[i] = i32_at(card, from + 4 * i);
+        i += 1;
+    }
+    n
+}
