@@ -2,7 +2,8 @@
  *
  * The archive target/staticlib/libhost.a (made by `rt staticlib host`, for x86-64 Linux) holds the function below and nothing else that a
  * linker sees. It is proved: for every card of any content and length, and every report buffer of any length, the call ends, answers
- * exactly what is described here, and changes no other memory.
+ * exactly what is described here, and changes no other memory. What a proof does not reach, the compiler and this header, is tested: the
+ * archive is run against a second program that was written apart from it.
  *
  *     uint8_t report[DIRECTION_REPORT_LENGTH];
  *     uint32_t number = direction_report(card, card_length, report, sizeof report);
@@ -74,7 +75,9 @@ uint32_t direction_report(const uint8_t *card, size_t card_length, uint8_t *repo
 #define DIRECTION_FIRST_PIECES 17   /* pieces into which the lines of the second's box cut the edges of the first */
 #define DIRECTION_SECOND_PIECES 18  /* and those of the first's box the edges of the second */
 
-/* A set of tiles or of directions: these numbers added up. In a set of directions DIRECTION_B is the direction O, the same place. */
+/* The box of a parcel reaches from its least to its greatest x and y. The four lines of the box, drawn on without end, cut the plane into
+ * nine tiles: the box itself, B, and the eight around it, named by the compass. A set of tiles or of directions: these numbers added up. In
+ * a set of directions DIRECTION_B is the direction O, the same place. */
 #define DIRECTION_NW 1
 #define DIRECTION_N 2
 #define DIRECTION_NE 4
