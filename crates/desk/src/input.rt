@@ -1,8 +1,7 @@
 // The input, in chunks, and the lines in it.
 use libc::STDIN_FILENO;
 use requests::fronts;
-
-const LINE_FEED: u8 = 10;
+use words::LINE_FEED;
 
 // Where the reading stands: the bytes of the chunk from `from` to `to` are still to be taken; `held` bytes of the line have been; answers
 // are written up to `at`; whether the line is whole, and whether the input is over.

@@ -14,7 +14,7 @@ use pair::pair_of;
 use parcels::parcel_count;
 use parcels::read_ends;
 use parcels::read_numbers;
-use parcels::tests::card_number;
+use parcels::rules::card_number;
 
 const REPORT_LENGTH: usize = 38;
 

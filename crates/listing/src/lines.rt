@@ -8,13 +8,13 @@ ghost use Rattle.parcels.specs.CardNumber.{cardNumber};
 ghost use Rattle.listing.specs.Listing.{pairLine, lineOf};
 ghost use Rattle.listing.specs.Steps.{Put, rowOf};
 use crate::names::put_set;
-use crate::texts::LINE_FEED;
-use crate::texts::SPACE;
 use crate::texts::put_number;
 use host::pair_in;
 use pair::Answer;
 use parcels::parcel_count;
 use parcels::slot_at;
+use words::LINE_FEED;
+use words::SPACE;
 
 // Bit 4 is written B in tiles, and O in directions.
 const TILES_MIDDLE: u8 = 66;

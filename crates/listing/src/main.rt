@@ -12,10 +12,10 @@ use libc::STDIN_FILENO;
 use libc::STDOUT_FILENO;
 use lines::put_rows;
 use parcels::parcel_count;
-use parcels::tests::card_number;
-use texts::LINE_FEED;
+use parcels::rules::card_number;
 use texts::put_number;
 use texts::put_text;
+use words::LINE_FEED;
 
 // A card has at most 17,036 bytes. One more tells a longer input, whose length is wrong however it goes on.
 fn main() {

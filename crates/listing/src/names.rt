@@ -6,11 +6,10 @@ ghost use lib.ListN.{length};
 ghost use Rattle.listing.specs.Names.{nameOf, namesTo, namesOf};
 ghost use Rattle.listing.specs.Listing.{space};
 ghost use Rattle.listing.specs.Steps.{Put, joint, nameStep};
-use crate::texts::SPACE;
 use crate::texts::put_byte;
 use crate::texts::put_text;
-
-const COLON: u8 = 58;
+use words::COLON;
+use words::SPACE;
 
 const BITS: usize = 9;
 

@@ -5,10 +5,6 @@ ghost use lib.ListN.{length};
 ghost use Rattle.listing.specs.Listing.{decimal};
 ghost use Rattle.listing.specs.Steps.{Put};
 
-pub const SPACE: u8 = 32;
-
-pub const LINE_FEED: u8 = 10;
-
 pub fn put_byte(out: &mut [u8], at: usize, byte: u8) -> usize
     requires { ⌜ at + 1 ≤ length (now out) ⌝ }
     ensures { λ r. ⌜ Put (now (out .entry)) at (byte ∷ []) r (now (out .exit)) ⌝ }

@@ -13,7 +13,7 @@ use endian::i32_at;
 use endian::u16_at;
 use outline::last_end;
 
-pub mod tests;
+pub mod rules;
 
 pub const PARCELS_AT: usize = 12;
 

@@ -2,10 +2,8 @@
 use crate::Reply;
 use crate::fronts;
 use libc::STDOUT_FILENO;
-
-const LINE_FEED: u8 = 10;
-
-const SPACE: u8 = 32;
+use words::LINE_FEED;
+use words::SPACE;
 
 const NO_BYTES: u8 = 45;
 

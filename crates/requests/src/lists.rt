@@ -1,11 +1,9 @@
 // The requests on the sheet's lists themselves: lend, poke, sheet.
 use crate::Reply;
+use words::COLON;
 use words::Integer;
 use words::Natural;
-
-const SPACE: u8 = 32;
-
-const COLON: u8 = 58;
+use words::SPACE;
 
 const EQUALS: u8 = 61;
 // The room of the lists.

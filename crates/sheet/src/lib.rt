@@ -20,6 +20,7 @@ use outline::refusals::SLOT_NUMBER;
 use slots::cells::relate;
 use slots::damage::sheet_damaged;
 use slots::storage::COORDINATES;
+use slots::storage::LAST_SLOT;
 use slots::storage::RECORD;
 use slots::storage::RECORDS;
 use slots::storage::RELATIONS;
@@ -29,8 +30,6 @@ use slots::storage::write_record;
 use slots::storage::write_room;
 use slots::zeros::zero_i32;
 use slots::zeros::zero_u16;
-
-const LAST_SLOT: u16 = 31;
 
 // What reading a cell answers: the relation that stands there, or the number of the refusal.
 pub enum Reading {

@@ -12,6 +12,8 @@ ghost use Rattle.slots.specs.Steps.{slotsOf};
 
 pub const SLOTS: usize = 32;
 
+pub const LAST_SLOT: u16 = 31;
+
 pub const ROOM: usize = 128;
 
 pub const RECORD: usize = 9;

@@ -6,7 +6,7 @@ use Rattle.card.proofs.load.Tie as tie
 use Rattle.card.proofs.load.Reads as reads
 use Rattle.card.proofs.load.Lts as lts
 use Rattle.card.proofs.lay_out.Reads as lay-out-reads
-use Rattle.parcels.proofs.tests.card_number.Reads as card-number-reads
+use Rattle.parcels.proofs.rules.card_number.Reads as card-number-reads
 use Rattle.sheet.proofs.wrong_lists.Reads as wrong-lists-reads
 
 wrong-lists-requires : tie.Need-wrong-lists-requires

@@ -11,7 +11,7 @@ use Rattle.host.proofs.direction_report.Tie as tie
 use Rattle.host.proofs.direction_report.Reads as reads
 use Rattle.host.proofs.direction_report.Lts as lts
 use Rattle.parcels.proofs.parcel_count.Reads as parcel-count-reads
-use Rattle.parcels.proofs.tests.card_number.Reads as card-number-reads
+use Rattle.parcels.proofs.rules.card_number.Reads as card-number-reads
 use Rattle.host.proofs.pair_in.Reads as pair-in-reads
 use Rattle.host.proofs.put_report.Reads as put-report-reads
 

@@ -16,7 +16,7 @@ use Rattle.listing.proofs.list.Tie as tie
 use Rattle.listing.proofs.list.Reads as reads
 use Rattle.listing.proofs.list.Lts as lts
 use Rattle.parcels.proofs.parcel_count.Reads as parcel-count-reads
-use Rattle.parcels.proofs.tests.card_number.Reads as card-number-reads
+use Rattle.parcels.proofs.rules.card_number.Reads as card-number-reads
 use Rattle.listing.proofs.lines.put_rows.Reads as put-rows-reads
 use Rattle.listing.proofs.texts.put_number.Reads as put-number-reads
 use Rattle.listing.proofs.texts.put_text.Reads as put-text-reads

@@ -9,10 +9,10 @@ use Rattle.parcels.specs.Layout.{lengthOf}
 use Rattle.parcels.specs.Reading.{parcelCount, ringCount, vertexCount}
 use Rattle.parcels.proofs.CardTests.{short-card, many-parcels, many-rings, many-vertices, other-parcels-at, other-rings-at, other-vertices-at, header-last}
 use borrow.Author.Needs.{needs}
-use Rattle.parcels.proofs.tests.wrong_header.Statement.{statement}
-use Rattle.parcels.proofs.tests.wrong_header.Tie as tie
-use Rattle.parcels.proofs.tests.wrong_header.Reads as reads
-use Rattle.parcels.proofs.tests.wrong_header.Lts as lts
+use Rattle.parcels.proofs.rules.wrong_header.Statement.{statement}
+use Rattle.parcels.proofs.rules.wrong_header.Tie as tie
+use Rattle.parcels.proofs.rules.wrong_header.Reads as reads
+use Rattle.parcels.proofs.rules.wrong_header.Lts as lts
 use Rattle.endian.proofs.u16_at.Reads as u16-at-reads
 
 same : (b : List ℕ) {p r v : ℕ} → p ≡ parcelCount b → r ≡ ringCount b → v ≡ vertexCount b

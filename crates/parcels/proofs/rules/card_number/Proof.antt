@@ -4,15 +4,15 @@ use Rattle.parcels.specs.Reading.{parcelCount}
 use Rattle.parcels.specs.CardNumber.{wrongHeader, wrongParcels, sizesNumber, firstNumber}
 use Rattle.parcels.proofs.CardTests.{card-header-wrong, card-parcels-wrong, card-sizes-wrong, card-vertices-wrong, card-last, right-vertices}
 use borrow.Author.Needs.{needs}
-use Rattle.parcels.proofs.tests.card_number.Statement.{statement}
-use Rattle.parcels.proofs.tests.card_number.Tie as tie
-use Rattle.parcels.proofs.tests.card_number.Reads as reads
-use Rattle.parcels.proofs.tests.card_number.Lts as lts
-use Rattle.parcels.proofs.tests.first_shape.Reads as first-shape-reads
-use Rattle.parcels.proofs.tests.first_sizes.Reads as first-sizes-reads
-use Rattle.parcels.proofs.tests.wrong_header.Reads as wrong-header-reads
-use Rattle.parcels.proofs.tests.wrong_parcels.Reads as wrong-parcels-reads
-use Rattle.parcels.proofs.tests.wrong_vertices.Reads as wrong-vertices-reads
+use Rattle.parcels.proofs.rules.card_number.Statement.{statement}
+use Rattle.parcels.proofs.rules.card_number.Tie as tie
+use Rattle.parcels.proofs.rules.card_number.Reads as reads
+use Rattle.parcels.proofs.rules.card_number.Lts as lts
+use Rattle.parcels.proofs.rules.first_shape.Reads as first-shape-reads
+use Rattle.parcels.proofs.rules.first_sizes.Reads as first-sizes-reads
+use Rattle.parcels.proofs.rules.wrong_header.Reads as wrong-header-reads
+use Rattle.parcels.proofs.rules.wrong_parcels.Reads as wrong-parcels-reads
+use Rattle.parcels.proofs.rules.wrong_vertices.Reads as wrong-vertices-reads
 
 -- rule 14 is kept;  and rule 15;  and rules 2 and 3
 one : (c : tie.Else1) → wrongHeader (c .before .before .before .args .card .now) ≡ false

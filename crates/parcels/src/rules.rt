@@ -15,6 +15,7 @@ use crate::read_ends;
 use crate::read_numbers;
 use crate::slot_at;
 use endian::u16_at;
+use outline::MOST_RINGS;
 use outline::MOST_VERTICES;
 use outline::check_shape;
 use outline::first_short;
@@ -25,16 +26,13 @@ use outline::refusals::CARD_PARCELS;
 use outline::refusals::CARD_VERTICES;
 use outline::refusals::LIST_SIZE;
 use outline::refusals::RING_LENGTH;
+use slots::storage::LAST_SLOT;
 
 const CARD_MOST_PARCELS: usize = 32;
 
 const CARD_MOST_RINGS: usize = 256;
 
 const CARD_MOST_VERTICES: usize = 2048;
-
-const LAST_SLOT: u16 = 31;
-
-const PARCEL_MOST_RINGS: usize = 8;
 
 fn wrong_header(card: &[u8]) -> bool
     ensures { λ t. ⌜ t ≡ wrongHeader (now (card .entry)) ⌝ }
@@ -93,7 +91,7 @@ fn wrong_entry(card: &[u8], k: usize) -> bool
     if count == 0 {
         return true;
     }
-    PARCEL_MOST_RINGS < count
+    MOST_RINGS < count
 }
 
 fn wrong_parcels(card: &[u8]) -> bool

@@ -9,14 +9,14 @@ use Rattle.parcels.specs.CardNumber.{wrongEntry}
 use Rattle.parcels.proofs.Bounds.{header-means}
 use Rattle.parcels.proofs.CardTests.{bad-entry, parcels-last}
 use borrow.Author.Needs.{needs}
-use Rattle.parcels.proofs.tests.wrong_parcels.Statement.{statement}
-use Rattle.parcels.proofs.tests.wrong_parcels.Tie as tie
-use Rattle.parcels.proofs.tests.wrong_parcels.Reads as reads
-use Rattle.parcels.proofs.tests.wrong_parcels.Lts as lts
+use Rattle.parcels.proofs.rules.wrong_parcels.Statement.{statement}
+use Rattle.parcels.proofs.rules.wrong_parcels.Tie as tie
+use Rattle.parcels.proofs.rules.wrong_parcels.Reads as reads
+use Rattle.parcels.proofs.rules.wrong_parcels.Lts as lts
 use Rattle.endian.proofs.u16_at.Reads as u16-at-reads
 use Rattle.parcels.proofs.first_ring.Reads as first-ring-reads
 use Rattle.parcels.proofs.parcel_count.Reads as parcel-count-reads
-use Rattle.parcels.proofs.tests.wrong_entry.Reads as wrong-entry-reads
+use Rattle.parcels.proofs.rules.wrong_entry.Reads as wrong-entry-reads
 
 abbrev Inv-loop : tie.InvT-loop
 Inv-loop card parcels k₀ k = (k ≤ parcels) × ((j : ℕ) → j < k → wrongEntry card j ≡ false)

@@ -6,10 +6,10 @@ use Rattle.parcels.specs.CardNumber.{shapeNumber}
 use Rattle.parcels.proofs.Bounds.{VertexPart, entry-few, vertices-there, parcel-sized}
 use Rattle.parcels.proofs.Filling.{front}
 use borrow.Author.Needs.{needs}
-use Rattle.parcels.proofs.tests.shape_number.Statement.{statement}
-use Rattle.parcels.proofs.tests.shape_number.Tie as tie
-use Rattle.parcels.proofs.tests.shape_number.Reads as reads
-use Rattle.parcels.proofs.tests.shape_number.Lts as lts
+use Rattle.parcels.proofs.rules.shape_number.Statement.{statement}
+use Rattle.parcels.proofs.rules.shape_number.Tie as tie
+use Rattle.parcels.proofs.rules.shape_number.Reads as reads
+use Rattle.parcels.proofs.rules.shape_number.Lts as lts
 use Rattle.parcels.proofs.read_ends.Reads as read-ends-reads
 use Rattle.parcels.proofs.read_numbers.Reads as read-numbers-reads
 use Rattle.outline.proofs.check_shape.Reads as check-shape-reads

@@ -11,10 +11,10 @@ use Rattle.parcels.proofs.Bounds.{entry-few}
 use Rattle.parcels.proofs.CardTests.{sizes-is}
 use Rattle.parcels.proofs.Filling.{front}
 use borrow.Author.Needs.{needs}
-use Rattle.parcels.proofs.tests.sizes_number.Statement.{statement}
-use Rattle.parcels.proofs.tests.sizes_number.Tie as tie
-use Rattle.parcels.proofs.tests.sizes_number.Reads as reads
-use Rattle.parcels.proofs.tests.sizes_number.Lts as lts
+use Rattle.parcels.proofs.rules.sizes_number.Statement.{statement}
+use Rattle.parcels.proofs.rules.sizes_number.Tie as tie
+use Rattle.parcels.proofs.rules.sizes_number.Reads as reads
+use Rattle.parcels.proofs.rules.sizes_number.Lts as lts
 use Rattle.parcels.proofs.read_ends.Reads as read-ends-reads
 use Rattle.outline.proofs.first_short.Reads as first-short-reads
 use Rattle.outline.proofs.last_end.Reads as last-end-reads

@@ -4,13 +4,13 @@ use lib.Dec.{ltb}
 use Rattle.parcels.proofs.Bounds.{entry-there}
 use Rattle.parcels.proofs.CardTests.{falling-slot, high-slot, no-ring, entry-last}
 use borrow.Author.Needs.{needs}
-use Rattle.parcels.proofs.tests.wrong_entry.Statement.{statement}
-use Rattle.parcels.proofs.tests.wrong_entry.Tie as tie
-use Rattle.parcels.proofs.tests.wrong_entry.Reads as reads
-use Rattle.parcels.proofs.tests.wrong_entry.Lts as lts
+use Rattle.parcels.proofs.rules.wrong_entry.Statement.{statement}
+use Rattle.parcels.proofs.rules.wrong_entry.Tie as tie
+use Rattle.parcels.proofs.rules.wrong_entry.Reads as reads
+use Rattle.parcels.proofs.rules.wrong_entry.Lts as lts
 use Rattle.parcels.proofs.count_at.Reads as count-at-reads
 use Rattle.parcels.proofs.slot_at.Reads as slot-at-reads
-use Rattle.parcels.proofs.tests.falls_back.Reads as falls-back-reads
+use Rattle.parcels.proofs.rules.falls_back.Reads as falls-back-reads
 
 falls-back-requires : tie.Need-falls-back-requires
 falls-back-requires c κs = search needs
