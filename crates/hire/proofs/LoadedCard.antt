@@ -1,6 +1,6 @@
 -- A card has one form: writing what was loaded gives the card's bytes again.
---   entries-in-order    the parcels of a good card stand in the order of their entries
---   one-form            the card of a good card's parcels is that card
+--   sorted       the entries before slot i are those of lower slots
+--   one-form     the card of a good card's parcels is that card
 use mathlib.Core.Path.{_≡_, refl, sym, _∙_, ap, subst}
 use mathlib.Core.Logic.{_≢_}
 use mathlib.Core.Bool.{Bool}

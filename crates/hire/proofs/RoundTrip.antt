@@ -1,7 +1,6 @@
 -- Accepted parcels, once written, read back the same.
 --   written-parcel    the card puts into each slot what stood there
 --   written-good      it is a good card
---   round-trip        so loading it lays out the same parcels
 use mathlib.Core.Path.{_≡_, refl, sym, _∙_, ap}
 use mathlib.Core.Logic.{_≢_}
 use mathlib.Core.List.{List}

@@ -1,7 +1,6 @@
 -- A written card: what its bytes read as, for parcels that may stand.
---   card-same                   it hangs on the 32 slots alone
---   written-length              its length is that of the layout
---   parcels-read ..             its header's counts
+--   parts                       where its parts stand
+--   parcels-read, rings-read, vertices-read     its header's counts
 --   slot-read, count-read       the entry of a parcel;  ends-read, numbers-read  its ring ends and coordinates
 use mathlib.Core.Path.{_≡_, refl, sym, _∙_, ap, subst}
 use mathlib.Core.Bool.{true}

@@ -3,7 +3,8 @@
 --   RangeContains c lo hi p q     range c of the lines lo and hi contains everything between p and q
 --   Holds L M relation p q u v    the cell between p, q and u, v holds the region whose box is L and whose relation to the box M is given
 --   Rectangle                     a cell in places
---   linesOf, strip count, cellAt  the grid in places: the distinct lines in rising order, and the cell in row i and column j
+--   linesOf, columnCount, rowCount, cellAt     the grid in places: the distinct lines in rising order, how many strips they make, and the cell in
+--                                 row i and column j
 --   rangeOf lo hi p               how many of the two lines lie at or before p: the range just after p
 --   holds a b relation c          the cell c holds the region with box a. Its meaning: proofs/Holding, `holds-means`
 use mathlib.Core.Path.{_≡_}

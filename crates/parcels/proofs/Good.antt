@@ -2,7 +2,6 @@
 --   good-tests       every test of a good card, taken apart
 --   next-slot, slots-rise     its slots rise
 --   card-accepts     every parcel of a good card keeps rules 1 to 7
---   parcel-accepts   so whatever a good card puts into a slot is nothing or an accepted outline
 use mathlib.Core.Path.{_≡_, refl, sym, _∙_, ap}
 use mathlib.Core.Logic.{_≢_}
 use mathlib.Core.Bool.{Bool, true, false, not, _&&_, _||_}

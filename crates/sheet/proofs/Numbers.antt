@@ -1,7 +1,7 @@
 -- The numbers that a put and a removal answer.
 --   change-is             the number of a change, by the three tests
 --   change-shows          a change that 11, 8 and 12 do not refuse: what is known of the sheet and the slot
---   put-first, put-then, remove-first, remove-then    the number in two steps: 11, 8 and 12, then the call's own
+--   put-first, put-then, remove-first, remove-empty, remove-there    the number in two steps: 11, 8 and 12, then the call's own
 --   accepted-rules        a region of which the check answers no number keeps every rule
 --   put-ready, remove-ready    what a put or a removal that is not refused may write
 --   put-refused, put-done, remove-refused, remove-done    the sheet at exit
