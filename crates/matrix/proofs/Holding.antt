@@ -16,9 +16,9 @@ use Rattle.plane.specs.Place.{inRange, placeOf}
 use Rattle.plane.specs.Points.{Lines}
 use Rattle.plane.specs.Placed.{LinesInRange, boxOf, Upright}
 use Rattle.plane.specs.TileSet.{bit, one-if}
+use Rattle.plane.specs.Tiles.{columnOf, rowOf}
 use Rattle.plane.proofs.Logic.{and-means, le-means, eq-means, iff-join, iff-turn, iff-and}
 use Rattle.plane.proofs.Place.{place-lt, place-at-most}
-use Rattle.edge.specs.Tiles.{columnOf, rowOf}
 use Rattle.matrix.specs.Grid.{Cell}
 use Rattle.matrix.specs.Holding.{RangeContains, Holds, acrossLines, upLines, cellAt, rangeOf, holds}
 use Rattle.matrix.proofs.Grid.{StripAt}

@@ -18,8 +18,8 @@ use lib.Signed.{_≤ℤ_}
 use Rattle.plane.specs.Choice.{pick}
 use Rattle.plane.specs.Points.{Lines}
 use Rattle.plane.specs.TileSet.{bit, one-if}
+use Rattle.plane.specs.Tiles.{columnOf, rowOf}
 use Rattle.plane.specs.declared.Box.{Box}
-use Rattle.edge.specs.Tiles.{columnOf, rowOf}
 
 abbrev pub RangeContains : (c : ℕ) (lo hi p q : ℤ) → Type 0
 RangeContains zero lo hi p q = q ≤ℤ lo
