@@ -14,10 +14,10 @@ pub fn report(card: &[u8], buffer: &mut [u8]) -> Result<(), Refusal> {
     let front = buffer.get_mut(..REPORT).ok_or(Refusal::BufferTooShort)?;
     let parcels = card::read(card)?;
     let outlines: Vec<_> = parcels.values().map(Region::outline).collect();
-    let [first, second] = outlines.as_slice() else {
-        return Err(Refusal::NotTwoParcels);
+    let answer = match outlines.as_slice() {
+        [first, second] => pair::pair(first, second),
+        _ => return Err(Refusal::NotTwoParcels),
     };
-    let answer = pair::pair(first, second);
     if let Err(refusal) = answer {
         return Err(refusal.broken.rule);
     }

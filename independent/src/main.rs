@@ -71,9 +71,7 @@ fn card_on_input() -> io::Result<Vec<u8>> {
 }
 
 fn parse(words: &[OsString]) -> Result<Command, String> {
-    let Some((command, rest)) = words.split_first() else {
-        return Err("no command".to_owned());
-    };
+    let (command, rest) = words.split_first().ok_or("no command")?;
     match (command.to_str(), rest) {
         (Some("desk"), []) => Ok(Command::Desk),
         (Some("list"), []) => Ok(Command::List),
@@ -88,10 +86,11 @@ fn parse(words: &[OsString]) -> Result<Command, String> {
             number(seed)?,
             directory.into(),
         )),
-        (Some("desk" | "list" | "make" | "spoil" | "cards"), _) => {
-            Err(format!("wrong number of words after {}", command.display()))
-        }
-        _ => Err(format!("unknown command {}", command.display())),
+        (Some("desk" | "list" | "make" | "spoil" | "cards"), _) => Err(format!(
+            "wrong number of words after {}",
+            command.to_string_lossy()
+        )),
+        _ => Err(format!("unknown command {}", command.to_string_lossy())),
     }
 }
 
@@ -101,7 +100,7 @@ fn parse_kind(word: &OsString) -> Result<Kind, String> {
         Some("sheets") => Ok(Kind::Sheets),
         Some("cards") => Ok(Kind::Cards),
         Some("short") => Ok(Kind::Short),
-        _ => Err(format!("unknown kind {}", word.display())),
+        _ => Err(format!("unknown kind {}", word.to_string_lossy())),
     }
 }
 
@@ -109,5 +108,5 @@ fn number(word: &OsString) -> Result<u64, String> {
     let digits = word.to_str().filter(|text| !text.starts_with('+'));
     digits
         .and_then(|text| text.parse().ok())
-        .ok_or_else(|| format!("{} is not a number from 0", word.display()))
+        .ok_or_else(|| format!("{} is not a number from 0", word.to_string_lossy()))
 }

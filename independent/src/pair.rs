@@ -87,7 +87,7 @@ pub fn numbers(answer: &Result<Comparison, PairRefusal>) -> [u16; NUMBERS] {
             numbers[4] = comparison.second_to_first;
             numbers[5] = matrix.rows as u16;
             numbers[6] = matrix.columns as u16;
-            for (number, &cell) in numbers[7..16].iter_mut().zip(matrix.cells.as_flattened()) {
+            for (number, &cell) in numbers[7..16].iter_mut().zip(matrix.cells.iter().flatten()) {
                 *number = cell.into();
             }
             numbers[16] = comparison.directions;
@@ -101,5 +101,5 @@ pub fn numbers(answer: &Result<Comparison, PairRefusal>) -> [u16; NUMBERS] {
 /// The word "around": the first region lies around the second. A refused pair
 /// gives no.
 pub fn around(answer: &Result<Comparison, PairRefusal>) -> bool {
-    answer.is_ok_and(|comparison| is_around(comparison.directions))
+    answer.map_or(false, |comparison| is_around(comparison.directions))
 }

@@ -83,8 +83,8 @@ impl Span {
     /// The range that strictly contains a place; none where it is on a line.
     pub fn range_of(&self, place: Fraction) -> Option<usize> {
         self.ranges().iter().position(|&(from, to)| {
-            from.is_none_or(|line| Fraction::from(line) < place)
-                && to.is_none_or(|line| place < Fraction::from(line))
+            from.map_or(true, |line| Fraction::from(line) < place)
+                && to.map_or(true, |line| place < Fraction::from(line))
         })
     }
 

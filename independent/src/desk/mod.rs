@@ -24,8 +24,9 @@ pub fn run(input: impl Read, mut output: impl Write) -> io::Result<()> {
         if !input.buffer().contains(&b'\n') {
             output.flush()?;
         }
-        let Some(is_whole) = read_line(&mut input, &mut line)? else {
-            return output.flush();
+        let is_whole = match read_line(&mut input, &mut line)? {
+            Some(is_whole) => is_whole,
+            None => return output.flush(),
         };
         if is_whole && line.iter().all(|&byte| byte == b' ') {
             continue;
@@ -56,8 +57,20 @@ fn read_line(input: &mut impl BufRead, line: &mut Vec<u8>) -> io::Result<Option<
     if line.len() <= LONGEST_LINE {
         return Ok(Some(true));
     }
-    input.skip_until(b'\n')?;
+    pass_rest_of_line(input)?;
     Ok(Some(false))
+}
+
+/// Passes over what is left of a line, its line feed too, some bytes at a time.
+fn pass_rest_of_line(input: &mut impl BufRead) -> io::Result<()> {
+    let mut some = Vec::new();
+    loop {
+        some.clear();
+        let count = input.by_ref().take(1 << 16).read_until(b'\n', &mut some)?;
+        if count == 0 || some.last() == Some(&b'\n') {
+            return Ok(());
+        }
+    }
 }
 
 #[cfg(test)]

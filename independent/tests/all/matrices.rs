@@ -21,11 +21,18 @@ impl Value {
 
     /// The value at the front of a text, and what is behind it.
     fn parse_front(text: &str) -> (Self, &str) {
-        let Some(mut rest) = text.strip_prefix('[') else {
-            let end = text.find([',', ']']).unwrap_or(text.len());
-            let number = text[..end].parse().expect("a whole number");
-            return (Self::Number(number), &text[end..]);
-        };
+        match text.strip_prefix('[') {
+            Some(rest) => Self::parse_items(rest),
+            None => {
+                let end = text.find([',', ']']).unwrap_or(text.len());
+                let number = text[..end].parse().expect("a whole number");
+                (Self::Number(number), &text[end..])
+            }
+        }
+    }
+
+    /// The list whose first item is at the front of a text, and what is behind.
+    fn parse_items(mut rest: &str) -> (Self, &str) {
         let mut items = Vec::new();
         loop {
             let (item, behind) = Self::parse_front(rest);
@@ -63,9 +70,8 @@ fn rings(value: &Value) -> Vec<Vertices> {
 
 fn check_row(row: &str) {
     let fields: Vec<&str> = row.split('\t').collect();
-    let [_, matrix, relation, relation_back, directions, first, second] = fields[..] else {
-        panic!("a row of other than seven fields: {row}");
-    };
+    let fields: [&str; 7] = fields.try_into().expect("a row of seven fields");
+    let [_, matrix, relation, relation_back, directions, first, second] = fields;
     let first = outline(&rings(&Value::parse(first)));
     let second = outline(&rings(&Value::parse(second)));
     let matrix = Value::parse(matrix);
