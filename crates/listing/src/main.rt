@@ -4,11 +4,12 @@ ghost use mathlib.Core.List.{_++_};
 ghost use lib.ListN.{length, drop};
 ghost use Rattle.listing.specs.Listing.{listing};
 
+mod input;
 mod lines;
 mod names;
 mod texts;
 
-use libc::STDIN_FILENO;
+use libc::STDERR_FILENO;
 use libc::STDOUT_FILENO;
 use lines::put_rows;
 use parcels::parcel_count;
@@ -17,13 +18,26 @@ use texts::put_number;
 use texts::put_text;
 use words::LINE_FEED;
 
-// A card has at most 17,036 bytes. One more tells a longer input, whose length is wrong however it goes on.
+// A card has at most 17,036 bytes. One more tells a longer input, whose length is wrong however it goes on. Whatever was read has its list;
+// that there may have been more, or that the list was not written, is told on standard error, because a program has no exit status.
 fn main() {
     let mut card = [0u8; 17037];
-    let n = io::read_full(STDIN_FILENO, &mut card);
+    let input = input::read_card(&mut card);
+    if input.failed {
+        io::write_all(
+            STDERR_FILENO,
+            b"listing: the input could not be read to its end\n",
+        );
+    }
+    let n = input.count;
     let mut out = [0u8; 131072];
     let end = list(&card[..n], &mut out);
-    io::write_all(STDOUT_FILENO, &out[0..end]);
+    if !io::write_all(STDOUT_FILENO, &out[0..end]) {
+        io::write_all(
+            STDERR_FILENO,
+            b"listing: the list could not be written to its end\n",
+        );
+    }
 }
 
 // The list of any card, good or not, from the front of the buffer: any list has room there.
