@@ -1,5 +1,5 @@
 // The desk: every call of the library at a keyboard. Requests come in on standard input, one a line, and each has one line of answer on
-// standard output. There is one sheet, empty at the start.
+// standard output. Lines of nothing but spaces and lines that begin with `#`, remarks, have none. There is one sheet, empty at the start.
 mod cards;
 mod input;
 mod names;
@@ -14,6 +14,8 @@ use requests::pairs;
 
 // The bytes that a line may have.
 const LONGEST_LINE: usize = 65535;
+// `#`, with which a remark begins.
+const REMARK: u8 = 35;
 // From here on what is written is sent before the next answer: any answer has room behind it.
 const MUCH: usize = 32768;
 
@@ -98,11 +100,15 @@ fn answer(
         return answers::finish(Reply::Bad, out, at);
     }
     let line = fronts::bytes(line, held);
-    if words::is_over(line, 0) {
+    if is_passed_over(line) {
         return at;
     }
     let reply = ask(line, out, at, xs, records, relations, lent);
     answers::finish(reply, out, at)
+}
+
+fn is_passed_over(line: &[u8]) -> bool {
+    line.len() == 0 || line[0] == REMARK || words::is_over(line, 0)
 }
 
 fn ask(

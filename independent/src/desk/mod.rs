@@ -28,7 +28,7 @@ pub fn run(input: impl Read, mut output: impl Write) -> io::Result<()> {
             Some(is_whole) => is_whole,
             None => return output.flush(),
         };
-        if is_whole && line.iter().all(|&byte| byte == b' ') {
+        if is_whole && is_passed_over(&line) {
             continue;
         }
         let request = if is_whole {
@@ -40,6 +40,11 @@ pub fn run(input: impl Read, mut output: impl Write) -> io::Result<()> {
             request.map_or_else(|| NOT_A_REQUEST.to_owned(), |request| desk.answer(request));
         writeln!(output, "{answer}")?;
     }
+}
+
+/// Whether a line has no answer: it begins with `#`, or has nothing but spaces.
+fn is_passed_over(line: &[u8]) -> bool {
+    line.first() == Some(&b'#') || line.iter().all(|&byte| byte == b' ')
 }
 
 /// Reads the next line, without its line feed, and whether it is whole; no more
@@ -88,6 +93,19 @@ mod tests {
         assert_eq!(answers(b""), "");
         assert_eq!(answers(b"\n   \n\n  "), "");
         assert_eq!(answers(b"tiles 3\n\n  tiles   7  "), "2\n3\n");
+    }
+
+    #[test]
+    fn lines_that_begin_with_a_hash_have_no_answer() {
+        assert_eq!(answers(b"#\n#tiles 3\n# tiles 3\n##"), "");
+        assert_eq!(
+            answers(b"tiles 3\n# remark\n #\ntiles 3 #\ntiles 7"),
+            "2\n?\n?\n3\n"
+        );
+        let mut longest = vec![b'#'; 65_535];
+        assert_eq!(answers(&longest), "");
+        longest.push(b'#');
+        assert_eq!(answers(&longest), "?\n");
     }
 
     #[test]

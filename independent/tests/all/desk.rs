@@ -119,9 +119,9 @@ fn a_line_that_is_no_request_changes_nothing() {
 /// How many lines want an answer.
 fn lines_to_answer(input: &[u8]) -> usize {
     let lines = input.split(|&byte| byte == b'\n');
-    let is_blank = |line: &&[u8]| line.iter().all(|&byte| byte == b' ');
+    let is_blank = |line: &[u8]| line.iter().all(|&byte| byte == b' ');
     lines
-        .filter(|line| line.len() > 65_535 || !is_blank(line))
+        .filter(|line| line.len() > 65_535 || !(is_blank(line) || line.starts_with(b"#")))
         .count()
 }
 
@@ -131,8 +131,8 @@ fn any_bytes_get_one_answer_a_line() {
     for _ in 0..200 {
         let length = random.below(3_000);
         let alphabet = random.pick(&[
-            b"\n 0123456789-+abcdefxputclearsheet\t\r".as_slice(),
-            b"\n \x00\xff",
+            b"\n #0123456789-+abcdefxputclearsheet\t\r".as_slice(),
+            b"\n #\x00\xff",
         ]);
         let any = random.percent(50);
         let byte = |_| {
@@ -154,7 +154,7 @@ fn requests_with_bytes_changed_get_one_answer_a_line() {
         let mut input = made(kind, 20, 53);
         for _ in 0..input.len() / 100 {
             let place = random.below(input.len());
-            input[place] = random.pick(b"\n 09-a\xff");
+            input[place] = random.pick(b"\n #09-a\xff");
         }
         let answers = ask(&input);
         assert_eq!(answers.len(), lines_to_answer(&input));
