@@ -1,7 +1,8 @@
 /* host.c: a C host in small. It makes cards, good and bad, asks direction_report about each, and prints a line a question.
  * It ends with status 1 if the call touched a byte that it must leave alone. Its output is kept in host.txt.
  *
- *     tools/host     builds and runs it
+ *     tools/c-program host examples/host.c     builds it with the archive, in the root of the repository
+ *     tools/run host                           runs it
  */
 #include "direction.h"
 

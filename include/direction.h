@@ -12,7 +12,7 @@
  *         if (tiles & DIRECTION_NW) ..
  *     }
  *
- * Build: cc -Iinclude host.c target/staticlib/libhost.a     (examples/host.c is such a program)
+ * C99 or later, or C++. Build: cc -std=c99 -Iinclude host.c target/staticlib/libhost.a     (examples/host.c is such a program)
  */
 #ifndef DIRECTION_H
 #define DIRECTION_H
@@ -36,7 +36,8 @@ extern "C" {
  * Ownership: both blocks stay the caller's; the call keeps neither pointer.
  * Reentrant: the call keeps no state between calls and has no global variables. Threads may call it at the same time, each with a report
  * of its own; they may share a card.
- * Memory: no heap. At most DIRECTION_STACK bytes of stack, the frame of the call included.
+ * Memory: no heap. At most DIRECTION_STACK bytes of stack, whatever the card, the call's own return address and frame included; what the
+ * host's memcpy and memset take comes on top.
  * Library: no function of the C library is used but memcpy and memset, to which the compiler of the archive turns the copying and
  * clearing of arrays. A host without a C library has to have these two, as C compilers ask of every such environment.
  * Time: bounded. The call has no loop without a fixed bound: at most 32 parcels of at most 64 vertices are looked at.
@@ -46,7 +47,7 @@ uint32_t direction_report(const uint8_t *card, size_t card_length, uint8_t *repo
 /* Sizes, in bytes. */
 #define DIRECTION_REPORT_LENGTH 38
 #define DIRECTION_CARD_MOST 17036 /* the longest card of any number of parcels; a longer one is refused (14) */
-#define DIRECTION_STACK 4096      /* stack of a call, at most */
+#define DIRECTION_STACK 4096      /* stack of a call, at most; memcpy and memset are the host's and not counted */
 #define DIRECTION_CODE 16384      /* code and constants of the archive, at most; it has no variables */
 
 /* The refusals, in the order in which they are looked for. The first that applies is answered. */
@@ -102,8 +103,11 @@ static inline unsigned direction_word(const uint8_t *report, unsigned place)
  *   then             for each parcel, for each vertex: x and y, signed, four bytes each. x grows east, y north.
  *   The length is exactly 12 + 4 P + 2 R + 8 V. Rings are clockwise, the last vertex joins the first and is not repeated.
  *
- * Measured, of the archive as rt makes it: 3,552 bytes of stack (the most over 2,000 cards, memcpy and memset included: tools/host-cost.c)
- * and 15,942 bytes of code and constants (readelf). The gate (.ci/run) measures both again and holds them to the bounds above.
+ * Where the numbers above come from, of the archive as rt makes it. Stack: 3,688 bytes, added up from its code (tools/host-stack): it has no
+ * recursion and no frame of variable size, so its deepest chain of calls tells what any card can take. Seen in runs (tools/host-cost.c):
+ * 3,552 bytes, the most over 2,001 cards, the 2,000 good and bad ones that `independent cards 2000 1` makes and examples/two-parcels.card,
+ * with the memcpy and memset of the C library that rt's programs run with; another card may take more, up to the first number. Code and
+ * constants: 15,942 bytes (readelf). The gate (.ci/run) takes all three again and holds them to the sizes above.
  */
 
 #ifdef __cplusplus

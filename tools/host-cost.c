@@ -1,6 +1,6 @@
-/* host-cost.c: how much stack the C host's call uses. Each card on the command line is asked about on a stack of its own that was filled
- * with a pattern; what the call changed of it, less what a function that does nothing changes, is the answer. Prints the most.
- * An argument is a card in a file.
+/* host-cost.c: how much stack the C host's call takes on the cards of the command line, a file each. Each is asked about on a stack of its own
+ * that was filled with a pattern; what the call changed of it, less what a function that does nothing changes, is the answer. Prints the most:
+ * no bound, for another card may take more (tools/host-stack has the bound).
  */
 #define _XOPEN_SOURCE 700
 #include "direction.h"
