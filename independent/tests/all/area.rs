@@ -1,6 +1,8 @@
-//! The published model itself: a region has a tile exactly when its inside
-//! meets the open tile (document 003), and a cell of the matrix holds it
-//! exactly when its inside meets the cell (document 000). For an accepted ring
+//! The published models themselves: a region has a tile exactly when its inside
+//! meets the open tile (Li and Liu, "Cardinal directions: A comparison of
+//! direction relation matrix and objects interaction matrix"), and a cell of
+//! the matrix holds it exactly when its inside meets the cell (Schneider and
+//! others, "Cardinal Directions between Complex Regions"). For an accepted ring
 //! that is an area above 0, which is worked out here by clipping, without a
 //! look at the clauses of document 01.
 

@@ -1,5 +1,7 @@
 //! Outlines that others have written on a sheet: they keep rules 1 to 4 and
-//! need keep no other. Readings 13, 14, 17 and 54.
+//! need keep no other. So boxes may have no width or height, edges equal ends,
+//! and rings may run anticlockwise, where the clause on edges along a line
+//! shows.
 
 use independent::relation::{pieces, relation};
 

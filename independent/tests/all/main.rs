@@ -1,5 +1,5 @@
-//! Document 01 as tests: everything it says of its outlines, the readings of
-//! its open points, and what must hold of any outlines, sheets and cards.
+//! Document 01 as tests: everything it says of its outlines, what its open
+//! points are read as, and what must hold of any outlines, sheets and cards.
 
 mod area;
 mod cards;

@@ -113,7 +113,7 @@ fn outline_4() {
 
 #[test]
 fn outline_5() {
-    // Back, the relation has B and the directions do not have O (reading 23).
+    // Back, the relation has B and the directions do not have O.
     let expected = Expected {
         tiles: "W:SW:S",
         tiles_back: "N:NE:B:E",

@@ -1,5 +1,5 @@
-//! Reading 12: the tiles of an edge in order of travel by one formula for both
-//! clauses about edges, boxes without width or height included. The program
+//! The tiles of an edge in order of travel by one formula for both clauses about
+//! edges, boxes without width or height included (`lines_behind`). The program
 //! goes by the clauses; here every edge and box of a small grid is compared.
 
 use independent::plane::{Bounds, Span};
