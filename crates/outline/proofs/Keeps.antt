@@ -1,6 +1,7 @@
 -- Laws of the rules that a region keeps.
 --   keeps-none, keeps-more, keeps-fewer    rules 1 to 0; one rule more; fewer rules
 --   Sized R           what rules 1 to 3 come to, for a pass over the rings;  sized, sized-keeps  from them and back
+--   counted-keeps, listed-keeps            rule 1, and rule 3 after 2, from what they ask
 --   RegionInRange R   every ring's coordinates are in range;  in-range, in-range-keeps  what rule 4 adds, and back
 --   broken-number     a broken rule is one of 1 to 7;  broken-ring  past rule 1, what breaks it is one of the rings
 -- Of ring r of a region that keeps rules 1 to 3:
@@ -80,6 +81,12 @@ module _ {R : Region} where
       go (suc (suc zero)) r l b = omega (arith, b .1, s .grown r (b .0))
       go (suc (suc (suc zero))) r l b = ⊎-elim (λ p. omega (arith, s .small)) (λ p. p (s .listed)) (b .1)
       go (suc (suc (suc (suc m)))) r l b = omega arith
+
+  pub counted-keeps : 0 < length (R .ends) → length (R .ends) ≤ mostRings → Keeps 1 R
+  counted-keeps some few = keeps-more keeps-none (λ r b. ⊎-elim (λ p. omega arith) (λ p. omega arith) (b .1))
+
+  pub listed-keeps : Keeps 2 R → lastEnd (R .ends) ≤ mostVertices → length (R .coordinates) ≡ 2 * lastEnd (R .ends) → Keeps 3 R
+  listed-keeps two small listed = keeps-more two (λ r b. ⊎-elim (λ p. omega arith) (λ p. p listed) (b .1))
 
   -- ---- rule 4
   pub in-range : Keeps 4 R → RegionInRange R
