@@ -1,138 +1,115 @@
 -- What the pair answer says, in words that a user can check against a map.
---   number-means      number 0 exactly when both regions keep rules 1 to 7 and both relations have a tile
---   always-answered   two regions that keep the rules always have a tile each, so 13 is never given
+--   number-means      number 0 exactly when both regions keep rules 1 to 7: they are `Answered`
 --   fields-are        the fields of such an answer
---   tile-means        tile k is in the relation of the first region to the second exactly when the document's rule finds it there
---   pieces-between    the pieces are at least the edges and at most five times as many
+--   some-tile         it is never refused for want of a tile
+--   tile-means, back-tile-means         tile k is in the relation of the first region to the second, of the second to the first, exactly
+--                     when the document's rule finds it there
+--   pieces-mean, back-pieces-mean       the pieces of the first region against the second's box, of the second against the first's
+--   pieces-between, relation-below      the pieces are at least the edges and at most five times as many; a relation is nine tiles
 --   around-means      around is yes exactly when the directions are the eight without O
---   directions-turned the directions of the second region from the first are the opposites
+--   turned, directions-turned           the answer the other way; its directions are the opposites
 use mathlib.Core.Path.{_≡_, refl, ap}
 use mathlib.Core.Logic.{_↔_, _≢_}
 use mathlib.Core.Bool.{Bool, true, false, not}
-use mathlib.Core.List.{List}
 use Prim.Native.Nat.{ℕ, zero, suc, _*_, _≤_, _<_}
 use native.Mathlib.Omega.{arith}
 use lib.Dec.{eqb}
-use lib.IntN.{ℤ}
 use borrow.Author.Tests.{ne-eqb}
 use Rattle.plane.specs.Choice.{pick}
 use Rattle.plane.specs.Points.{Lines}
 use Rattle.plane.specs.TileSet.{setOf, bit}
-use Rattle.plane.proofs.Logic.{never, iff-join, both, eq-means, not-means, iff-not, iff-turn}
+use Rattle.plane.proofs.Logic.{iff-join, both, eq-means, not-means, iff-not, iff-turn}
 use Rattle.plane.proofs.TileSet.{set-means, set-same}
-use Rattle.ring.proofs.RingBox.{box-in-range}
+use Rattle.ring.specs.declared.Part.{Part}
 use Rattle.outline.specs.declared.Checked.{Checked}
 use Rattle.outline.specs.declared.Checked.the-variants.{Accepted, Refused}
-use Rattle.outline.specs.Refusals.{number}
-use Rattle.outline.specs.Region.{lastEnd}
-use Rattle.outline.specs.Rules.{KeepsRules}
+use Rattle.outline.specs.Region.{Region, lastEnd}
+use Rattle.outline.specs.Rules.{Keeps, KeepsRules}
 use Rattle.outline.specs.Check.{checkOf}
+use Rattle.outline.proofs.Keeps.{keeps-fewer}
 use Rattle.outline.proofs.Check.{accepted-means, refused-means}
-use Rattle.relation.specs.Relation.{KeepsFirstFour, RegionBox, RegionHas, regionBox, relationOf, regionPieces}
-use Rattle.relation.proofs.Relation.{region-in-range, region-upright, region-box-means, relation-means, region-pieces-le, relation-lt}
+use Rattle.relation.specs.Relation.{RegionBox, RegionHas, RegionPieces, regionBox, relationOf, regionSeen}
+use Rattle.relation.proofs.Regions.{region-upright}
+use Rattle.relation.proofs.Relation.{relation-tile, pieces-count, region-pieces-le, relation-lt}
 use Rattle.relation.proofs.Never.{relation-some}
-use Rattle.matrix.specs.Holding.{rowCount, columnCount}
-use Rattle.matrix.specs.Matrix.{matrixOf, flatOf}
+use Rattle.matrix.specs.Matrix.{matrixOf}
 use Rattle.matrix.specs.Directions.{directed, directionsOf, opposite}
 use Rattle.matrix.proofs.Directions.{pair-opposite}
 use Rattle.pair.specs.declared.Answer.{Answer}
 use Rattle.pair.specs.Answer.{refusedWith, orRefused, given, answerFor, answerOf, pairOf, aroundOf}
 
-pub first-four : (xs : List ℤ) (ends : List ℕ) → KeepsRules xs ends → KeepsFirstFour xs ends
-first-four xs ends k = record { keeps = λ n r l b. k .keeps n r b }
-
-module _ (xs : List ℤ) (ends : List ℕ) (ys : List ℤ) (fs : List ℕ) where
-  abbrev forth : ℕ
-  forth = relationOf (regionBox ys fs) xs ends
-
-  abbrev back : ℕ
-  back = relationOf (regionBox xs ends) ys fs
-
-  abbrev grid : List (List ℕ)
-  grid = matrixOf (regionBox xs ends) (regionBox ys fs) forth back
-
+module _ (first second : Region) where
   pub record Answered : Type 0 where
-    pub first-kept : KeepsRules xs ends
-    pub second-kept : KeepsRules ys fs
-    pub first-tile : forth ≢ 0
-    pub second-tile : back ≢ 0
+    pub first-kept : KeepsRules first
+    pub second-kept : KeepsRules second
 
-  abbrev pub whole : Answer
-  whole =
-      record {
-        number = 0;
-        region = 0;
-        ring = 0;
-        first = forth;
-        second = back;
-        rows = rowCount (regionBox xs ends) (regionBox ys fs);
-        columns = columnCount (regionBox xs ends) (regionBox ys fs);
-        cells = flatOf grid;
-        directions = directionsOf grid;
-        «first_pieces» = regionPieces (regionBox ys fs) xs ends;
-        «second_pieces» = regionPieces (regionBox xs ends) ys fs;
-      }
-
-  pub fields-are : Answered → pairOf xs ends ys fs ≡ whole
-  unfolding pairOf answerOf answerFor given
-  fields-are a =
-      rw (accepted-means xs ends .1 (a .first-kept), accepted-means ys fs .1 (a .second-kept), ne-eqb forth 0 (a .first-tile), ne-eqb back 0 (a .second-tile)) refl
-
-  -- a refusal by the check has a number that is not 0
-  refused-number : (zs : List ℤ) (gs : List ℕ) (n r : ℕ) → checkOf zs gs ≡ Refused n r → n ≡ 0 → ⊥
-  refused-number zs gs zero r e q = refused-means zs gs zero r .0 e .broken
-  refused-number zs gs (suc n) r e q = omega arith
-
-  number-there : pairOf xs ends ys fs .number ≡ 0 → Answered
-  unfolding pairOf answerOf answerFor given
-  number-there h = first (checkOf xs ends) refl h
-    where
-      tiles : checkOf xs ends ≡ Accepted → checkOf ys fs ≡ Accepted → (s t : Bool) → eqb forth 0 ≡ s → eqb back 0 ≡ t
-          → (pick s (refusedWith 13 1 0) (pick t (refusedWith 13 2 0) whole)) .number ≡ 0 → Answered
-      tiles e f true t p q n = absurd (omega arith)
-      tiles e f false true p q n = absurd (omega arith)
-      tiles e f false false p q n =
-          record {
-            first-kept = accepted-means xs ends .0 e;
-            second-kept = accepted-means ys fs .0 f;
-            first-tile = borrow.Author.Tests.eqb-false forth 0 p;
-            second-tile = borrow.Author.Tests.eqb-false back 0 q;
-          }
-
-      second : checkOf xs ends ≡ Accepted → (c : Checked) → checkOf ys fs ≡ c → (orRefused c 2 (answerOf xs ends ys fs)) .number ≡ 0 → Answered
-      second e Accepted f n = tiles e f (eqb forth 0) (eqb back 0) refl refl n
-      second e (Refused m r) f n = absurd (refused-number ys fs m r f n)
-
-      first : (c : Checked) → checkOf xs ends ≡ c → (orRefused c 1 (orRefused (checkOf ys fs) 2 (answerOf xs ends ys fs))) .number ≡ 0 → Answered
-      first Accepted e n = second e (checkOf ys fs) refl n
-      first (Refused m r) e n = absurd (refused-number xs ends m r e n)
-
-  pub number-means : (pairOf xs ends ys fs .number ≡ 0) ↔ Answered
-  number-means = (number-there, λ a. ap (λ (r : Answer). r .number) (fields-are a))
-
-  -- two regions that keep the rules are always answered: number 13 is never given
-  pub always-answered : KeepsRules xs ends → KeepsRules ys fs → Answered
-  always-answered p q =
-      record {
-        first-kept = p;
-        second-kept = q;
-        first-tile = relation-some (regionBox ys fs) (region-upright ys fs) xs ends p;
-        second-tile = relation-some (regionBox xs ends) (region-upright xs ends) ys fs q;
-      }
+  abbrev whole : Answer
+  whole = given (regionBox first) (regionBox second) (regionSeen (regionBox second) first) (regionSeen (regionBox first) second)
 
   module _ (a : Answered) where
-    pub tile-means : (M : Lines) → RegionBox ys fs M → (k : ℕ) → k < 9 → (bit (pairOf xs ends ys fs .first) k ≡ 1) ↔ RegionHas M xs ends k
-    tile-means M is k h =
-        let four = first-four ys fs (a .second-kept) in
-        let range = box-in-range ys 0 (lastEnd fs) (region-in-range ys fs four) M is in
-        let e = region-box-means ys fs four M range .1 is in
-        rw (fields-are a) (rw e (relation-means xs ends (first-four xs ends (a .first-kept)) M range (rw e at (region-upright ys fs)) k h))
+    four : Keeps 4 first × Keeps 4 second
+    four = (keeps-fewer (omega arith) (a .first-kept), keeps-fewer (omega arith) (a .second-kept))
 
-    pub pieces-between : (lastEnd ends ≤ pairOf xs ends ys fs .«first_pieces») × (pairOf xs ends ys fs .«first_pieces» ≤ lastEnd ends * 5)
-    pieces-between = rw (fields-are a) (region-pieces-le xs ends (first-four xs ends (a .first-kept)) (regionBox ys fs))
+    pub some-tile : (relationOf (regionBox second) first ≢ 0) × (relationOf (regionBox first) second ≢ 0)
+    some-tile = (
+      relation-some (regionBox second) (region-upright second) (keeps-fewer (omega arith) (a .first-kept)),
+      relation-some (regionBox first) (region-upright first) (keeps-fewer (omega arith) (a .second-kept)),
+    )
 
-    pub relation-below : pairOf xs ends ys fs .first < 512
-    relation-below = rw (fields-are a) (relation-lt (regionBox ys fs) xs ends)
+    pub fields-are : pairOf first second ≡ whole
+    unfolding pairOf answerOf answerFor
+    fields-are =
+        rw (
+          accepted-means first .1 (a .first-kept),
+          accepted-means second .1 (a .second-kept),
+          ne-eqb (relationOf (regionBox second) first) 0 (some-tile .0),
+          ne-eqb (relationOf (regionBox first) second) 0 (some-tile .1),
+        ) refl
+
+    pub tile-means : (M : Lines) → RegionBox second M → (k : ℕ) → k < 9 → (bit (pairOf first second .first) k ≡ 1) ↔ RegionHas M first k
+    unfolding given
+    tile-means M is k h = rw fields-are (relation-tile (four .0) (four .1) M is k h)
+
+    pub back-tile-means : (L : Lines) → RegionBox first L → (k : ℕ) → k < 9 → (bit (pairOf first second .second) k ≡ 1) ↔ RegionHas L second k
+    unfolding given
+    back-tile-means L is k h = rw fields-are (relation-tile (four .1) (four .0) L is k h)
+
+    pub pieces-mean : (M : Lines) → RegionBox second M → (m : ℕ) → (pairOf first second .«first_pieces» ≡ m) ↔ RegionPieces M first m
+    unfolding given
+    pieces-mean M is m = rw fields-are (pieces-count (four .0) (four .1) M is m)
+
+    pub back-pieces-mean : (L : Lines) → RegionBox first L → (m : ℕ) → (pairOf first second .«second_pieces» ≡ m) ↔ RegionPieces L second m
+    unfolding given
+    back-pieces-mean L is m = rw fields-are (pieces-count (four .1) (four .0) L is m)
+
+    pub pieces-between : (lastEnd (first .ends) ≤ pairOf first second .«first_pieces») × (pairOf first second .«first_pieces» ≤ lastEnd (first .ends) * 5)
+    unfolding given
+    pieces-between = rw fields-are (region-pieces-le (four .0) (regionBox second))
+
+    pub relation-below : pairOf first second .first < 512
+    unfolding given
+    relation-below = rw fields-are (relation-lt (regionBox second) first)
+
+  -- a refusal by the check has a number that is not 0
+  refused-number : (R : Region) (n r : ℕ) → checkOf R ≡ Refused n r → n ≡ 0 → ⊥
+  refused-number R zero r e q = refused-means R zero r .0 e .broken
+  refused-number R (suc n) r e q = omega arith
+
+  number-there : pairOf first second .number ≡ 0 → Answered
+  unfolding pairOf
+  number-there h = one (checkOf first) refl h
+    where
+      two : checkOf first ≡ Accepted → (c : Checked) → checkOf second ≡ c → (orRefused c 2 (answerOf first second)) .number ≡ 0 → Answered
+      two e Accepted f n = record { first-kept = accepted-means first .0 e; second-kept = accepted-means second .0 f }
+      two e (Refused m r) f n = absurd (refused-number second m r f n)
+
+      one : (c : Checked) → checkOf first ≡ c → (orRefused c 1 (orRefused (checkOf second) 2 (answerOf first second))) .number ≡ 0 → Answered
+      one Accepted e n = two e (checkOf second) refl n
+      one (Refused m r) e n = absurd (refused-number first m r e n)
+
+  pub number-means : (pairOf first second .number ≡ 0) ↔ Answered
+  unfolding given
+  number-means = (number-there, λ a. ap (λ (r : Answer). r .number) (fields-are a))
 
 -- ---- around
 abbrev eight : ℕ → Bool
@@ -148,39 +125,42 @@ module _ (f : ℕ → Bool) where
   eight-back e = set-same f eight 9 (λ k h. both (f k) (eight k)
       (iff-join (iff-turn (set-means f 9 k h)) (iff-join (e k h) (iff-turn (iff-join (not-means (eqb k 4)) (iff-not (eq-means k 4)))))))
 
-module _ (xs : List ℤ) (ends : List ℕ) (ys : List ℤ) (fs : List ℕ) where
+module _ (first second : Region) where
   -- the directions of any pair answer are a set of the nine
-  directions-set : (f : ℕ → Bool) × (pairOf xs ends ys fs .directions ≡ setOf f 9)
+  directions-set : (f : ℕ → Bool) × (pairOf first second .directions ≡ setOf f 9)
   unfolding pairOf answerOf answerFor given setOf directionsOf
-  directions-set = first (checkOf xs ends)
+  directions-set = one (checkOf first)
     where
-      m : List (List ℕ)
-      m = grid xs ends ys fs
+      there : Part
+      there = regionSeen (regionBox second) first
 
-      tiles : (s t : Bool) → (f : ℕ → Bool) × ((pick s (refusedWith 13 1 0) (pick t (refusedWith 13 2 0) (whole xs ends ys fs))) .directions ≡ setOf f 9)
+      back : Part
+      back = regionSeen (regionBox first) second
+
+      tiles : (s t : Bool) → (f : ℕ → Bool) × ((pick s (refusedWith 13 1 0) (pick t (refusedWith 13 2 0) (whole first second))) .directions ≡ setOf f 9)
       tiles true t = (λ k. false, refl)
       tiles false true = (λ k. false, refl)
-      tiles false false = (directed m, refl)
+      tiles false false = (directed (matrixOf (regionBox first) (regionBox second) (there .set) (back .set)), refl)
 
-      second : (c : Checked) → (f : ℕ → Bool) × ((orRefused c 2 (answerOf xs ends ys fs)) .directions ≡ setOf f 9)
-      second Accepted = tiles (eqb (forth xs ends ys fs) 0) (eqb (back xs ends ys fs) 0)
-      second (Refused n r) = (λ k. false, refl)
+      two : (c : Checked) → (f : ℕ → Bool) × ((orRefused c 2 (answerOf first second)) .directions ≡ setOf f 9)
+      two Accepted = tiles (eqb (there .set) 0) (eqb (back .set) 0)
+      two (Refused n r) = (λ k. false, refl)
 
-      first : (c : Checked) → (f : ℕ → Bool) × ((orRefused c 1 (orRefused (checkOf ys fs) 2 (answerOf xs ends ys fs))) .directions ≡ setOf f 9)
-      first Accepted = second (checkOf ys fs)
-      first (Refused n r) = (λ k. false, refl)
+      one : (c : Checked) → (f : ℕ → Bool) × ((orRefused c 1 (orRefused (checkOf second) 2 (answerOf first second))) .directions ≡ setOf f 9)
+      one Accepted = two (checkOf second)
+      one (Refused n r) = (λ k. false, refl)
 
-  pub around-means : (aroundOf (pairOf xs ends ys fs) ≡ true) ↔ ((k : ℕ) → k < 9 → (bit (pairOf xs ends ys fs .directions) k ≡ 1) ↔ (k ≢ 4))
+  pub around-means : (aroundOf (pairOf first second) ≡ true) ↔ ((k : ℕ) → k < 9 → (bit (pairOf first second .directions) k ≡ 1) ↔ (k ≢ 4))
   unfolding aroundOf
   around-means =
       let d = directions-set in
-      iff-join (eq-means (pairOf xs ends ys fs .directions) 495) (rw (d .1) (eight-there (d .0), eight-back (d .0)))
+      iff-join (eq-means (pairOf first second .directions) 495) (rw (d .1) (eight-there (d .0), eight-back (d .0)))
 
-  -- the answer seen the other way
-  pub turned : Answered xs ends ys fs → Answered ys fs xs ends
-  turned a = record { first-kept = a .second-kept; second-kept = a .first-kept; first-tile = a .second-tile; second-tile = a .first-tile }
+  pub turned : Answered first second → Answered second first
+  turned a = record { first-kept = a .second-kept; second-kept = a .first-kept }
 
-  pub directions-turned : Answered xs ends ys fs → pairOf ys fs xs ends .directions ≡ opposite (pairOf xs ends ys fs .directions)
+  pub directions-turned : Answered first second → pairOf second first .directions ≡ opposite (pairOf first second .directions)
+  unfolding given
   directions-turned a =
-      rw (fields-are xs ends ys fs a, fields-are ys fs xs ends (turned a))
-      (pair-opposite (regionBox xs ends) (regionBox ys fs) (forth xs ends ys fs) (back xs ends ys fs))
+      rw (fields-are first second a, fields-are second first (turned a))
+      (pair-opposite (regionBox first) (regionBox second) (relationOf (regionBox second) first) (relationOf (regionBox first) second))

@@ -1,25 +1,29 @@
--- Document 01: the pair call. "Region 1 checked wholly first"; "For 13 region 1 means the first relation. All other fields of a refused pair
--- answer are 0." "The word "around" is yes exactly when the directions are the eight without O".
+-- Document 01, the pair call. The first region is checked wholly before the second, and a refusal names the region, 1 or 2; number 13 names
+-- region 1 where the relation without a tile is the first's. In a refused answer every other field is 0. The word "around" is yes exactly
+-- when the directions are the eight without O.
 --   refusedWith n g r          the refusal with number n that names region g and ring r
 --   orRefused c g a            the answer a where the check c accepts region g, and its refusal where not
---   refusedBy c g              the refusal of region g by the check c
---   given a b r s m n          the answer's fields for two boxes, two relations and two piece counts
---   answerOf xs ends ys fs     the answer for two regions that are accepted
---   pairOf xs ends ys fs       the pair answer for any lists
+--   given a b there back       the answer's fields for two boxes and what each region shows of the other's
+--   answerFor a b there back   the same, or the refusal where one of them has no tile
+--   answerOf first second      the answer for two regions that are accepted
+--   pairOf first second        the pair answer for any two regions. Its meaning: proofs/Laws
 --   aroundOf a                 the word "around" of an answer: no for a refused one
+--   reportWords a              the 19 numbers of an answer: number, region, ring, both relations, rows, columns, nine cells by row, directions,
+--                              the pieces of both
 use mathlib.Core.Bool.{Bool}
-use mathlib.Core.List.{List}
+use mathlib.Core.List.{List, [], _∷_, _++_}
 use Prim.Native.Nat.{ℕ}
 use lib.Dec.{eqb}
 use lib.ListN.{replicate}
-use lib.IntN.{ℤ}
 use Rattle.plane.specs.Choice.{pick}
 use Rattle.plane.specs.declared.Box.{Box}
+use Rattle.ring.specs.declared.Part.{Part}
 use Rattle.outline.specs.declared.Checked.{Checked}
 use Rattle.outline.specs.declared.Checked.the-variants.{Accepted, Refused}
 use Rattle.outline.specs.Refusals.{number, no-tile}
+use Rattle.outline.specs.Region.{Region}
 use Rattle.outline.specs.Check.{checkOf}
-use Rattle.relation.specs.Relation.{regionBox, relationOf, regionPieces}
+use Rattle.relation.specs.Relation.{regionBox, regionSeen}
 use Rattle.matrix.specs.Holding.{rowCount, columnCount}
 use Rattle.matrix.specs.Matrix.{matrixOf, flatOf}
 use Rattle.matrix.specs.Directions.{directionsOf}
@@ -45,38 +49,38 @@ abbrev pub orRefused : Checked → ℕ → Answer → Answer
 orRefused Accepted g a = a
 orRefused (Refused n r) g a = refusedWith n g r
 
--- the refusal of a region that the check does not accept: nothing is meant where it does
-abbrev pub refusedBy : Checked → ℕ → Answer
-refusedBy Accepted g = refusedWith 0 0 0
-refusedBy (Refused n r) g = refusedWith n g r
-
--- the answer for two boxes, the relation of each region to the other's box, and its pieces
-unfoldable pub given : Box → Box → (r s m n : ℕ) → Answer
-given a b r s m n =
+unfoldable pub given : (a b : Box) (there back : Part) → Answer
+given a b there back =
+    let m = matrixOf a b (there .set) (back .set) in
     record {
       number = 0;
       region = 0;
       ring = 0;
-      first = r;
-      second = s;
+      first = there .set;
+      second = back .set;
       rows = rowCount a b;
       columns = columnCount a b;
-      cells = flatOf (matrixOf a b r s);
-      directions = directionsOf (matrixOf a b r s);
-      «first_pieces» = m;
-      «second_pieces» = n;
+      cells = flatOf m;
+      directions = directionsOf m;
+      «first_pieces» = there .pieces;
+      «second_pieces» = back .pieces;
     }
 
-unfoldable pub answerFor : Box → Box → (r s m n : ℕ) → Answer
-answerFor a b r s m n = pick (eqb r 0) (refusedWith (number no-tile) 1 0) (pick (eqb s 0) (refusedWith (number no-tile) 2 0) (given a b r s m n))
+unfoldable pub answerFor : (a b : Box) (there back : Part) → Answer
+answerFor a b there back =
+    pick (eqb (there .set) 0) (refusedWith (number no-tile) 1 0) (pick (eqb (back .set) 0) (refusedWith (number no-tile) 2 0) (given a b there back))
 
-unfoldable pub answerOf : List ℤ → List ℕ → List ℤ → List ℕ → Answer
-answerOf xs ends ys fs =
-    answerFor (regionBox xs ends) (regionBox ys fs) (relationOf (regionBox ys fs) xs ends) (relationOf (regionBox xs ends) ys fs)
-    (regionPieces (regionBox ys fs) xs ends) (regionPieces (regionBox xs ends) ys fs)
+unfoldable pub answerOf : (first second : Region) → Answer
+answerOf first second =
+    answerFor (regionBox first) (regionBox second) (regionSeen (regionBox second) first) (regionSeen (regionBox first) second)
 
-unfoldable pub pairOf : List ℤ → List ℕ → List ℤ → List ℕ → Answer
-pairOf xs ends ys fs = orRefused (checkOf xs ends) 1 (orRefused (checkOf ys fs) 2 (answerOf xs ends ys fs))
+unfoldable pub pairOf : (first second : Region) → Answer
+pairOf first second = orRefused (checkOf first) 1 (orRefused (checkOf second) 2 (answerOf first second))
 
 unfoldable pub aroundOf : Answer → Bool
 aroundOf a = eqb (a .directions) 495
+
+abbrev pub reportWords : Answer → List ℕ
+reportWords a =
+    a .number ∷ a .region ∷ a .ring ∷ a .first ∷ a .second ∷ a .rows ∷ a .columns
+    ∷ (a .cells ++ (a .directions ∷ a .«first_pieces» ∷ a .«second_pieces» ∷ []))

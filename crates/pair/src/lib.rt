@@ -1,8 +1,9 @@
 // Two regions: the pair answer.
 ghost use mathlib.Core.Path.{_≡_};
 ghost use mathlib.Core.Bool.{Bool};
-ghost use Rattle.outline.specs.Sized.{Sized, RegionInRange};
-ghost use Rattle.pair.specs.Answer.{refusedWith, refusedBy, given, answerOf, pairOf, aroundOf};
+ghost use Rattle.outline.specs.Region.{regionOf};
+ghost use Rattle.outline.specs.Rules.{Keeps};
+ghost use Rattle.pair.specs.Answer.{refusedWith, orRefused, given, answerOf, pairOf, aroundOf, reportWords};
 use matrix::directions_of;
 use matrix::flat_of;
 use matrix::grid_of;
@@ -12,7 +13,7 @@ use outline::check_region;
 use outline::refusals::NO_TILE;
 use plane::Box;
 use relation::region_box;
-use relation::region_part;
+use relation::region_seen;
 use ring::Part;
 
 // The eight directions without O.
@@ -55,18 +56,18 @@ fn refused(number: u16, region: u16, ring: u16) -> Answer
 }
 
 // The refusal of a region that the check does not accept.
-fn refusal(k: Checked, region: u16) -> Answer
-    ensures { λ r. ⌜ r ≡ refusedBy k region ⌝ }
+fn refusal(checked: Checked, region: u16) -> Answer
+    ensures { λ r. ⌜ r ≡ orRefused checked region (refusedWith 0 0 0) ⌝ }
 {
-    match k {
+    match checked {
         Checked::Accepted => refused(0, 0, 0),
         Checked::Refused { number, ring } => refused(number, region, ring),
     }
 }
 
-// The answer for two boxes and the part that each region has of the other's box.
+// The answer for two boxes and what each region shows of the other's.
 fn given(a: Box, b: Box, there: Part, back: Part) -> Answer
-    ensures { λ r. ⌜ r ≡ given a b (there .set) (back .set) (there .pieces) (back .pieces) ⌝ }
+    ensures { λ r. ⌜ r ≡ given a b there back ⌝ }
 {
     let g = grid_of(a, b);
     let m = matrix_of(g, a, b, there.set, back.set);
@@ -88,14 +89,14 @@ fn given(a: Box, b: Box, there: Part, back: Part) -> Answer
 }
 
 // The answer for two accepted regions.
-fn answer_of(xs: &[i32], ends: &[u16], ys: &[i32], fs: &[u16]) -> Answer
-    requires { ⌜ Sized (now xs) (now ends) × RegionInRange (now xs) (now ends) × Sized (now ys) (now fs) × RegionInRange (now ys) (now fs) ⌝ }
-    ensures { λ r. ⌜ r ≡ answerOf (now (xs .entry)) (now (ends .entry)) (now (ys .entry)) (now (fs .entry)) ⌝ }
+fn answer_of(first: &[i32], first_ends: &[u16], second: &[i32], second_ends: &[u16]) -> Answer
+    requires { ⌜ Keeps 4 (regionOf (now first) (now «first_ends»)) × Keeps 4 (regionOf (now second) (now «second_ends»)) ⌝ }
+    ensures { λ r. ⌜ r ≡ answerOf (regionOf (now (first .entry)) (now («first_ends» .entry))) (regionOf (now (second .entry)) (now («second_ends» .entry))) ⌝ }
 {
-    let a = region_box(xs, ends);
-    let b = region_box(ys, fs);
-    let there = region_part(b, xs, ends);
-    let back = region_part(a, ys, fs);
+    let a = region_box(first, first_ends);
+    let b = region_box(second, second_ends);
+    let there = region_seen(b, first, first_ends);
+    let back = region_seen(a, second, second_ends);
     if there.set == 0 {
         return refused(NO_TILE, 1, 0);
     }
@@ -105,19 +106,19 @@ fn answer_of(xs: &[i32], ends: &[u16], ys: &[i32], fs: &[u16]) -> Answer
     given(a, b, there, back)
 }
 
-// The pair call. Region 1 is checked wholly before region 2.
-pub fn pair_of(xs: &[i32], ends: &[u16], ys: &[i32], fs: &[u16]) -> Answer
-    ensures { λ r. ⌜ r ≡ pairOf (now (xs .entry)) (now (ends .entry)) (now (ys .entry)) (now (fs .entry)) ⌝ }
+// The pair call. The first region is checked wholly before the second.
+pub fn pair_of(first: &[i32], first_ends: &[u16], second: &[i32], second_ends: &[u16]) -> Answer
+    ensures { λ r. ⌜ r ≡ pairOf (regionOf (now (first .entry)) (now («first_ends» .entry))) (regionOf (now (second .entry)) (now («second_ends» .entry))) ⌝ }
 {
-    let first = check_region(xs, ends);
-    let Checked::Accepted = first else {
-        return refusal(first, 1);
+    let one = check_region(first, first_ends);
+    let Checked::Accepted = one else {
+        return refusal(one, 1);
     };
-    let second = check_region(ys, fs);
-    let Checked::Accepted = second else {
-        return refusal(second, 2);
+    let two = check_region(second, second_ends);
+    let Checked::Accepted = two else {
+        return refusal(two, 2);
     };
-    answer_of(xs, ends, ys, fs)
+    answer_of(first, first_ends, second, second_ends)
 }
 
 // Is the first region around the second?
@@ -125,4 +126,32 @@ pub fn around(a: Answer) -> bool
     ensures { λ r. ⌜ r ≡ aroundOf a ⌝ }
 {
     a.directions == EIGHT
+}
+
+// The 19 numbers of an answer, in the order of its fields.
+pub fn report_words(a: Answer) -> [u16; 19]
+    ensures { λ words. ⌜ words ≡ reportWords a ⌝ }
+{
+    let cells = a.cells;
+    [
+        a.number,
+        a.region,
+        a.ring,
+        a.first,
+        a.second,
+        a.rows,
+        a.columns,
+        cells[0] as u16,
+        cells[1] as u16,
+        cells[2] as u16,
+        cells[3] as u16,
+        cells[4] as u16,
+        cells[5] as u16,
+        cells[6] as u16,
+        cells[7] as u16,
+        cells[8] as u16,
+        a.directions,
+        a.first_pieces,
+        a.second_pieces,
+    ]
 }

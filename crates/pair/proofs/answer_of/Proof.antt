@@ -1,44 +1,66 @@
-use mathlib.Core.Path.{_≡_, refl, sym, _∙_, ap}
+use mathlib.Core.Path.{_≡_, sym, _∙_, ap}
 use mathlib.Core.Logic.{_≢_}
-use mathlib.Core.List.{List}
-use Prim.Native.Nat.{ℕ}
-use lib.IntN.{ℤ}
 use borrow.Author.Needs.{needs}
 use borrow.Author.Tests.{eq-eqb, ne-eqb}
 use Rattle.plane.specs.declared.Box.{Box}
+use Rattle.plane.specs.Placed.{BoxInPlaces, Upright}
 use Rattle.ring.specs.declared.Part.{Part}
-use Rattle.relation.specs.Relation.{regionBox, relationOf, regionPart}
-use Rattle.relation.proofs.Relation.{region-upright}
-use Rattle.relation.proofs.Regions.{region-box-in-places}
+use Rattle.outline.specs.Region.{Region, regionOf}
+use Rattle.outline.specs.Rules.{Keeps}
+use Rattle.relation.specs.Relation.{regionBox, regionSeen}
+use Rattle.relation.proofs.Regions.{region-box-in-places, region-upright}
 use Rattle.pair.specs.Answer.{refusedWith, given, answerFor, answerOf}
 use Rattle.pair.proofs.answer_of.Statement.{statement}
 use Rattle.pair.proofs.answer_of.Tie as tie
 
-module _ (xs : List ℤ) (ends : List ℕ) (ys : List ℤ) (fs : List ℕ) (a b : Box) (ea : a ≡ regionBox xs ends) (eb : b ≡ regionBox ys fs) (there back : Part)
-    (et : there ≡ regionPart b xs ends) (ek : back ≡ regionPart a ys fs) where
-  forth-part : there ≡ regionPart (regionBox ys fs) xs ends
-  forth-part = et ∙ ap (λ (k : Box). regionPart k xs ends) eb
+-- ---- the answer by its tests
+module _ (a b : Box) (there back : Part) where
+  first-none : there .set ≡ 0 → refusedWith 13 1 0 ≡ answerFor a b there back
+  unfolding answerFor
+  first-none z = simp (eq-eqb (there .set) 0 z)
 
-  back-part : back ≡ regionPart (regionBox xs ends) ys fs
-  back-part = ek ∙ ap (λ (k : Box). regionPart k ys fs) ea
+  second-none : there .set ≢ 0 → back .set ≡ 0 → refusedWith 13 2 0 ≡ answerFor a b there back
+  unfolding answerFor
+  second-none n z = simp (ne-eqb (there .set) 0 n, eq-eqb (back .set) 0 z)
 
-  forth : there .set ≡ relationOf (regionBox ys fs) xs ends
-  forth = ap (λ (p : Part). p .set) forth-part
+  both-there : there .set ≢ 0 → back .set ≢ 0 → given a b there back ≡ answerFor a b there back
+  unfolding answerFor
+  both-there n m = simp (ne-eqb (there .set) 0 n, ne-eqb (back .set) 0 m)
 
-  back-is : back .set ≡ relationOf (regionBox xs ends) ys fs
-  back-is = ap (λ (p : Part). p .set) back-part
+box-there : {b : Box} {R : Region} → b ≡ regionBox R → Keeps 4 R → BoxInPlaces b × Upright b
+box-there e kept = rw e (region-box-in-places kept, region-upright _)
 
-  first-none : there .set ≡ 0 → refusedWith 13 1 0 ≡ answerOf xs ends ys fs
-  unfolding answerOf answerFor
-  first-none z = sym (rw (eq-eqb _ 0 (sym forth ∙ z)) refl)
+-- ---- what the calls answered
+abbrev one : tie.Start → Region
+one s = regionOf (s .args .first .now) (s .args .first-ends .now)
 
-  second-none : there .set ≢ 0 → back .set ≡ 0 → refusedWith 13 2 0 ≡ answerOf xs ends ys fs
-  unfolding answerOf answerFor
-  second-none n z = sym (rw (ne-eqb _ 0 (λ q. n (forth ∙ q)), eq-eqb _ 0 (sym back-is ∙ z)) refl)
+abbrev two : tie.Start → Region
+two s = regionOf (s .args .second .now) (s .args .second-ends .now)
 
-  both-there : there .set ≢ 0 → back .set ≢ 0 → given a b (there .set) (back .set) (there .pieces) (back .pieces) ≡ answerOf xs ends ys fs
-  unfolding answerOf answerFor
-  both-there n m = rw (forth-part, back-part, ea, eb) (sym (rw (ne-eqb _ 0 (λ q. n (forth ∙ q)), ne-eqb _ 0 (λ q. m (back-is ∙ q))) refl))
+module _ (c : tie.After-region-seen2) where
+  abbrev begin : tie.Start
+  begin = c .before .before .before .before .before .before
+
+  abbrev a : Box
+  a = c .before .before .before .region-box .result
+
+  abbrev b : Box
+  b = c .before .before .region-box2 .result
+
+  abbrev there : Part
+  there = c .before .region-seen .result
+
+  abbrev back : Part
+  back = c .region-seen2 .result
+
+  answered : answerFor a b there back ≡ answerOf (one begin) (two begin)
+  unfolding answerOf
+  answered =
+      let ea = c .before .before .before .region-box .ensures in
+      let eb = c .before .before .region-box2 .ensures in
+      let et = c .before .region-seen .ensures ∙ ap (λ (k : Box). regionSeen k (one begin)) eb in
+      let ek = c .region-seen2 .ensures ∙ ap (λ (k : Box). regionSeen k (two begin)) ea in
+      λ i. answerFor (ea i) (eb i) (et i) (ek i)
 
 region-box-requires : tie.Need-region-box-requires
 region-box-requires c κs = search needs
@@ -46,44 +68,41 @@ region-box-requires c κs = search needs
 region-box-requires-2 : tie.Need-region-box-requires-2
 region-box-requires-2 c κs = search needs
 
-region-part-requires : tie.Need-region-part-requires
-region-part-requires c κs =
-    let a = c .before .before .before .before .args in
+region-seen-requires : tie.Need-region-seen-requires
+region-seen-requires c κs =
     let p = c .before .before .before .before .pre in
-    rw (c .region-box2 .ensures) (region-box-in-places (a .ys .now) (a .fs .now) (p .2) (p .3), region-upright (a .ys .now) (a .fs .now), p .0, p .1)
+    let t = box-there (c .region-box2 .ensures) (p .1) in
+    (t .0, t .1, p .0)
 
-region-part-requires-2 : tie.Need-region-part-requires-2
-region-part-requires-2 c κs =
-    let a = c .before .before .before .before .before .args in
+region-seen-requires-2 : tie.Need-region-seen-requires-2
+region-seen-requires-2 c κs =
     let p = c .before .before .before .before .before .pre in
-    rw (c .before .before .region-box .ensures) (region-box-in-places (a .xs .now) (a .ends .now) (p .0) (p .1), region-upright (a .xs .now) (a .ends .now), p .2, p .3)
+    let t = box-there (c .before .before .region-box .ensures) (p .0) in
+    (t .0, t .1, p .1)
 
 refused-requires : tie.Need-refused-requires
 refused-requires c κs = search needs
 
 returns : tie.Need-returns
 returns c =
-    let a = c .before .before .before .before .before .before .before .before .before .args in
-    c .refused .ensures ∙ first-none (a .xs .now) (a .ends .now) (a .ys .now) (a .fs .now) (c .before .before .before .before .before .before .region-box .result) (c .before .before .before .before .before .region-box2 .result) (c .before .before .before .before .before .before .region-box .ensures) (c .before .before .before .before .before .region-box2 .ensures)
-    (c .before .before .before .before .region-part .result) (c .before .before .before .region-part2 .result) (c .before .before .before .before .region-part .ensures) (c .before .before .before .region-part2 .ensures) (c .before .if1 .taken)
+    let q = c .before .before .before in
+    c .refused .ensures ∙ first-none (a q) (b q) (there q) (back q) (c .before .if1 .taken) ∙ answered q
 
 refused-requires-2 : tie.Need-refused-requires-2
 refused-requires-2 c κs = search needs
 
 returns-2 : tie.Need-returns-2
 returns-2 c =
-    let a = c .before .before .before .before .before .before .before .before .before .before .before .args in
-    c .refused2 .ensures ∙ second-none (a .xs .now) (a .ends .now) (a .ys .now) (a .fs .now) (c .before .before .before .before .before .before .before .before .region-box .result) (c .before .before .before .before .before .before .before .region-box2 .result) (c .before .before .before .before .before .before .before .before .region-box .ensures) (c .before .before .before .before .before .before .before .region-box2 .ensures)
-    (c .before .before .before .before .before .before .region-part .result) (c .before .before .before .before .before .region-part2 .result) (c .before .before .before .before .before .before .region-part .ensures) (c .before .before .before .before .before .region-part2 .ensures) (c .before .before .before .if1 .left) (c .before .if2 .taken)
+    let q = c .before .before .before .before .before in
+    c .refused2 .ensures ∙ second-none (a q) (b q) (there q) (back q) (c .before .before .before .if1 .left) (c .before .if2 .taken) ∙ answered q
 
 given-requires : tie.Need-given-requires
 given-requires c κs = search needs
 
 returns-3 : tie.Need-returns-3
 returns-3 c =
-    let a = c .before .before .before .before .before .before .before .before .before .before .before .args in
-    c .given .ensures ∙ both-there (a .xs .now) (a .ends .now) (a .ys .now) (a .fs .now) (c .before .before .before .before .before .before .before .before .region-box .result) (c .before .before .before .before .before .before .before .region-box2 .result) (c .before .before .before .before .before .before .before .before .region-box .ensures) (c .before .before .before .before .before .before .before .region-box2 .ensures)
-    (c .before .before .before .before .before .before .region-part .result) (c .before .before .before .before .before .region-part2 .result) (c .before .before .before .before .before .before .region-part .ensures) (c .before .before .before .before .before .region-part2 .ensures) (c .before .before .before .if1 .left) (c .before .if2 .left)
+    let q = c .before .before .before .before .before in
+    c .given .ensures ∙ both-there (a q) (b q) (there q) (back q) (c .before .before .before .if1 .left) (c .before .if2 .left) ∙ answered q
 
 pub answer-of-spec : {M : Type 1} → statement M
 answer-of-spec =
@@ -91,8 +110,8 @@ answer-of-spec =
     (tie.spec
     region-box-requires
     region-box-requires-2
-    region-part-requires
-    region-part-requires-2
+    region-seen-requires
+    region-seen-requires-2
     refused-requires
     returns
     refused-requires-2

@@ -1,28 +1,52 @@
-use mathlib.Core.Path.{_≡_, refl, sym, _∙_, ap}
-use mathlib.Core.List.{List}
+use mathlib.Core.Path.{_≡_, sym, _∙_, ap}
 use Prim.Native.Nat.{ℕ}
-use lib.IntN.{ℤ}
+use native.Mathlib.Omega.{arith}
 use borrow.Author.Needs.{needs}
 use Rattle.outline.specs.declared.Checked.{Checked}
 use Rattle.outline.specs.declared.Checked.the-variants.{Accepted, Refused}
+use Rattle.outline.specs.Region.{Region, regionOf}
+use Rattle.outline.specs.Rules.{Keeps}
 use Rattle.outline.specs.Check.{checkOf}
-use Rattle.outline.proofs.Kept.{accepted-sized}
-use Rattle.pair.specs.Answer.{refusedBy, answerOf, pairOf}
+use Rattle.outline.proofs.Keeps.{keeps-fewer}
+use Rattle.outline.proofs.Check.{accepted-means}
+use Rattle.pair.specs.Answer.{refusedWith, orRefused, answerOf, pairOf}
 use Rattle.pair.proofs.pair_of.Statement.{statement}
 use Rattle.pair.proofs.pair_of.Tie as tie
 
-module _ (xs : List ℤ) (ends : List ℕ) (ys : List ℤ) (fs : List ℕ) where
-  first-refused : (n r : ℕ) → checkOf xs ends ≡ Refused n r → refusedBy (Refused n r) 1 ≡ pairOf xs ends ys fs
+-- ---- the answer by the two checks
+module _ (first second : Region) where
+  first-refused : {c : Checked} {n r : ℕ} → c ≡ checkOf first → c ≡ Refused n r → orRefused c 1 (refusedWith 0 0 0) ≡ pairOf first second
   unfolding pairOf
-  first-refused n r e = sym (rw e refl)
+  first-refused e f =
+      ap (λ (k : Checked). orRefused k 1 (refusedWith 0 0 0)) f
+      ∙ sym (ap (λ (k : Checked). orRefused k 1 (orRefused (checkOf second) 2 (answerOf first second))) (sym e ∙ f))
 
-  second-refused : (n r : ℕ) → checkOf xs ends ≡ Accepted → checkOf ys fs ≡ Refused n r → refusedBy (Refused n r) 2 ≡ pairOf xs ends ys fs
-  unfolding pairOf
-  second-refused n r e f = sym (rw (e, f) refl)
+  module _ (accepted : checkOf first ≡ Accepted) where
+    second-refused : {c : Checked} {n r : ℕ} → c ≡ checkOf second → c ≡ Refused n r → orRefused c 2 (refusedWith 0 0 0) ≡ pairOf first second
+    unfolding pairOf
+    second-refused e f =
+        ap (λ (k : Checked). orRefused k 2 (refusedWith 0 0 0)) f
+        ∙ sym (λ i. orRefused (accepted i) 1 (orRefused ((sym e ∙ f) i) 2 (answerOf first second)))
 
-  accepted : checkOf xs ends ≡ Accepted → checkOf ys fs ≡ Accepted → answerOf xs ends ys fs ≡ pairOf xs ends ys fs
-  unfolding pairOf
-  accepted e f = sym (rw (e, f) refl)
+    both-accepted : checkOf second ≡ Accepted → answerOf first second ≡ pairOf first second
+    unfolding pairOf
+    both-accepted f = sym (λ i. orRefused (accepted i) 1 (orRefused (f i) 2 (answerOf first second)))
+
+four : {R : Region} → checkOf R ≡ Accepted → Keeps 4 R
+four e = keeps-fewer (omega arith) (accepted-means _ .0 e)
+
+-- ---- what the calls answered
+abbrev one : tie.Start → Region
+one s = regionOf (s .args .first .now) (s .args .first-ends .now)
+
+abbrev two : tie.Start → Region
+two s = regionOf (s .args .second .now) (s .args .second-ends .now)
+
+first-accepted : (c : tie.After-enum-told) → checkOf (one (c .before .before .before .before .before)) ≡ Accepted
+first-accepted c = sym (c .before .before .check-region .ensures) ∙ c .enum-told .given .1
+
+second-accepted : (c : tie.After-enum-told3) → checkOf (two (c .before .before .before .before .before .before .before .before)) ≡ Accepted
+second-accepted c = sym (c .before .before .check-region2 .ensures) ∙ c .enum-told3 .given .1
 
 check-region-requires : tie.Need-check-region-requires
 check-region-requires c κs = search needs
@@ -38,10 +62,8 @@ refusal-requires c κs = search needs
 
 returns : tie.Need-returns
 returns c =
-    let a = c .before .before .before .before .before .before .args in
-    let t = c .before .enum-told2 .given .1 in
-    c .refusal .ensures ∙ ap (λ (k : Checked). refusedBy k 1) t
-    ∙ first-refused (a .xs .now) (a .ends .now) (a .ys .now) (a .fs .now) _ _ (sym (c .before .before .before .check-region .ensures) ∙ t)
+    let s = c .before .before .before .before .before .before in
+    c .refusal .ensures ∙ first-refused (one s) (two s) (c .before .before .before .check-region .ensures) (c .before .enum-told2 .given .1)
 
 check-region-requires-2 : tie.Need-check-region-requires-2
 check-region-requires-2 c κs = search needs
@@ -57,23 +79,18 @@ refusal-requires-2 c κs = search needs
 
 returns-2 : tie.Need-returns-2
 returns-2 c =
-    let a = c .before .before .before .before .before .before .before .before .before .args in
-    let t = c .before .enum-told4 .given .1 in
-    c .refusal2 .ensures ∙ ap (λ (k : Checked). refusedBy k 2) t
-    ∙ second-refused (a .xs .now) (a .ends .now) (a .ys .now) (a .fs .now) _ _ (sym (c .before .before .before .before .before .before .check-region .ensures) ∙ c .before .before .before .before .enum-told .given .1) (sym (c .before .before .before .check-region2 .ensures) ∙ t)
+    let q = c .before .before .before .before in
+    let s = q .before .before .before .before .before in
+    c .refusal2 .ensures ∙ second-refused (one s) (two s) (first-accepted q) (c .before .before .before .check-region2 .ensures) (c .before .enum-told4 .given .1)
 
 answer-of-requires : tie.Need-answer-of-requires
-answer-of-requires c κs =
-    let a = c .before .before .before .before .before .before .before .before .args in
-    let x = accepted-sized (a .xs .now) (a .ends .now) (sym (c .before .before .before .before .before .check-region .ensures) ∙ c .before .before .before .enum-told .given .1) in
-    let y = accepted-sized (a .ys .now) (a .fs .now) (sym (c .before .before .check-region2 .ensures) ∙ c .enum-told3 .given .1) in
-    (x .0, x .1, y .0, y .1)
+answer-of-requires c κs = (four (first-accepted (c .before .before .before)), four (second-accepted c))
 
 returns-3 : tie.Need-returns-3
 returns-3 c =
-    let a = c .before .before .before .before .before .before .before .before .before .args in
-    c .answer-of .ensures
-    ∙ accepted (a .xs .now) (a .ends .now) (a .ys .now) (a .fs .now) (sym (c .before .before .before .before .before .before .check-region .ensures) ∙ c .before .before .before .before .enum-told .given .1) (sym (c .before .before .before .check-region2 .ensures) ∙ c .before .enum-told3 .given .1)
+    let q = c .before .before .before .before in
+    let s = q .before .before .before .before .before in
+    c .answer-of .ensures ∙ both-accepted (one s) (two s) (first-accepted q) (second-accepted (c .before))
 
 pub pair-of-spec : {M : Type 1} → statement M
 pair-of-spec =

@@ -1,7 +1,7 @@
 use mathlib.Core.Path.{sym, _∙_, ap}
 use borrow.Author.Needs.{needs}
 use Rattle.outline.specs.declared.Checked.{Checked}
-use Rattle.pair.specs.Answer.{refusedBy}
+use Rattle.pair.specs.Answer.{refusedWith, orRefused}
 use Rattle.pair.proofs.refusal.Statement.{statement}
 use Rattle.pair.proofs.refusal.Tie as tie
 
@@ -11,19 +11,19 @@ enum-told c = search needs
 refused-requires : tie.Need-refused-requires
 refused-requires c κs = search needs
 
-enum-known-k : tie.Need-enum-known-k
-enum-known-k c = search needs
+enum-known-checked : tie.Need-enum-known-checked
+enum-known-checked c = search needs
 
 refused-requires-2 : tie.Need-refused-requires-2
 refused-requires-2 c κs = search needs
 
 returns : tie.Need-returns
-returns c = c .refused .ensures ∙ sym (ap (λ (k : Checked). refusedBy k (c .before .before .before .args .region)) (c .before .enum-told .given .1))
+returns c = c .refused .ensures ∙ sym (ap (λ (k : Checked). orRefused k (c .before .before .before .args .region) (refusedWith 0 0 0)) (c .before .enum-told .given .1))
 
 returns-2 : tie.Need-returns-2
-returns-2 c = c .refused2 .ensures ∙ sym (ap (λ (k : Checked). refusedBy k (c .before .before .before .before .args .region)) (c .before .before .k .given .1))
+returns-2 c = c .refused2 .ensures ∙ sym (ap (λ (k : Checked). orRefused k (c .before .before .before .before .args .region) (refusedWith 0 0 0)) (c .before .before .checked .given .1))
 
 pub refusal-spec : {M : Type 1} → statement M
 refusal-spec =
     tie.close
-    (tie.spec enum-told refused-requires enum-known-k refused-requires-2 returns returns-2)
+    (tie.spec enum-told refused-requires enum-known-checked refused-requires-2 returns returns-2)
