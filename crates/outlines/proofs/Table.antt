@@ -17,7 +17,7 @@ use Rattle.ring.specs.Tangled.{tangledPair, tangled}
 use Rattle.ring.specs.Turning.{clockwise}
 use Rattle.ring.specs.Centre.{eastward, crossesRay, encloses}
 use Rattle.ring.specs.RingTiles.{edgesHave, ringHas, ringPieces}
-use Rattle.outline.specs.Check.{firstBreaking, shortAt, outsideIn, outsideAt, repeatedAt, tangledAt, turnedAt, shapeOf, checkOf}
+use Rattle.outline.specs.Check.{shortAt, outsideIn, breaksAt, firstBreaking, shapeOf, checkOf}
 use Rattle.relation.specs.Relation.{regionBox, regionHas, relationOf, regionPieces}
 use Rattle.matrix.specs.Holding.{insert, linesOf, cellAt, rangeOf, holds}
 use Rattle.matrix.specs.Matrix.{cellValue, matrixOf, flatOf}
@@ -27,10 +27,10 @@ use Rattle.pair.specs.Answer.{pairOf, answerOf, answerFor, given, aroundOf}
 use Rattle.outlines.specs.Rows.{Row, rows}
 
 abbrev pub answerTo : Row → Answer
-answerTo r = pairOf (r .first .xs) (r .first .ends) (r .second .xs) (r .second .ends)
+answerTo r = pairOf (r .first) (r .second)
 
 pub table : map answerTo rows ≡ map (λ r. r .answer) rows
-unfolding placeOf inRange anyTo sumTo firstOf leastTo greatestTo tabFrom setOf clip strip hits moved doubledBox movedEdge has cuts together fresh pieces straddles overlap ends-apart shares one-side folds nextOf ringEdge stretchBox covers equalEnds repeated tangledPair tangled clockwise eastward crossesRay encloses edgesHave ringHas ringPieces firstBreaking shortAt outsideIn outsideAt repeatedAt tangledAt turnedAt shapeOf checkOf regionBox regionHas relationOf regionPieces insert linesOf cellAt rangeOf holds cellValue matrixOf flatOf sideOf holdsFirst holdsSecond compassPlace directed directionsOf pairOf answerOf answerFor given
+unfolding placeOf inRange anyTo sumTo firstOf leastTo greatestTo tabFrom setOf clip strip hits moved doubledBox movedEdge has cuts together fresh pieces straddles overlap ends-apart shares one-side folds nextOf ringEdge stretchBox covers equalEnds repeated tangledPair tangled clockwise eastward crossesRay encloses edgesHave ringHas ringPieces shortAt outsideIn breaksAt firstBreaking shapeOf checkOf regionBox regionHas relationOf regionPieces insert linesOf cellAt rangeOf holds cellValue matrixOf flatOf sideOf holdsFirst holdsSecond compassPlace directed directionsOf pairOf answerOf answerFor given
 table = refl
 
 pub words : map (λ r. aroundOf (r .answer)) rows ≡ map (λ r. r .around) rows

@@ -1,22 +1,18 @@
 -- Document 01, "Outlines to try, with what they give": outlines 1 to 12, each seen both ways, with all that the document says of them.
---   Outline             the two lists of a region
 --   Row                 two regions, the pair answer for them and the word "around"
 --   given, refused      an answer by its numbers: relations both ways, rows, columns, nine cells, directions, pieces; a refusal by number and region
 --   rows                the table. That the definitions give it: proofs/Table, `table`
 use mathlib.Core.Bool.{Bool, true, false}
 use mathlib.Core.List.{List, [], _∷_}
 use Prim.Native.Nat.{ℕ}
-use lib.IntN.{ℤ, pos, negsuc}
+use lib.IntN.{pos, negsuc}
+use Rattle.outline.specs.Region.{Region, regionOf}
 use Rattle.pair.specs.declared.Answer.{Answer}
 use Rattle.pair.specs.Answer.{refusedWith}
 
-pub record Outline : Type 0 where
-  pub xs : List ℤ
-  pub ends : List ℕ
-
 pub record Row : Type 0 where
-  pub first : Outline
-  pub second : Outline
+  pub first : Region
+  pub second : Region
   pub answer : Answer
   pub around : Bool
 
@@ -40,64 +36,64 @@ abbrev pub refused : (n g : ℕ) → Answer
 refused n g = refusedWith n g 0
 
 -- A
-abbrev pub square : Outline
-square = record { xs = pos 0 ∷ pos 0 ∷ pos 0 ∷ pos 10 ∷ pos 10 ∷ pos 10 ∷ pos 10 ∷ pos 0 ∷ []; ends = 4 ∷ [] }
+abbrev pub square : Region
+square = regionOf (pos 0 ∷ pos 0 ∷ pos 0 ∷ pos 10 ∷ pos 10 ∷ pos 10 ∷ pos 10 ∷ pos 0 ∷ []) (4 ∷ [])
 
 -- C of outline 1
-abbrev pub overlapping : Outline
-overlapping = record { xs = pos 5 ∷ pos 5 ∷ pos 5 ∷ pos 25 ∷ pos 25 ∷ pos 25 ∷ pos 25 ∷ pos 5 ∷ []; ends = 4 ∷ [] }
+abbrev pub overlapping : Region
+overlapping = regionOf (pos 5 ∷ pos 5 ∷ pos 5 ∷ pos 25 ∷ pos 25 ∷ pos 25 ∷ pos 25 ∷ pos 5 ∷ []) (4 ∷ [])
 
 -- outline 2
-abbrev pub beside : Outline
-beside = record { xs = pos 10 ∷ pos 0 ∷ pos 10 ∷ pos 10 ∷ pos 20 ∷ pos 10 ∷ pos 20 ∷ pos 0 ∷ []; ends = 4 ∷ [] }
+abbrev pub beside : Region
+beside = regionOf (pos 10 ∷ pos 0 ∷ pos 10 ∷ pos 10 ∷ pos 20 ∷ pos 10 ∷ pos 20 ∷ pos 0 ∷ []) (4 ∷ [])
 
 -- outline 3
-abbrev pub corner : Outline
-corner = record { xs = pos 10 ∷ pos 10 ∷ pos 10 ∷ pos 20 ∷ pos 20 ∷ pos 20 ∷ pos 20 ∷ pos 10 ∷ []; ends = 4 ∷ [] }
+abbrev pub corner : Region
+corner = regionOf (pos 10 ∷ pos 10 ∷ pos 10 ∷ pos 20 ∷ pos 20 ∷ pos 20 ∷ pos 20 ∷ pos 10 ∷ []) (4 ∷ [])
 
 -- outline 4
-abbrev pub apart : Outline
-apart = record { xs = pos 12 ∷ pos 12 ∷ pos 12 ∷ pos 22 ∷ pos 22 ∷ pos 22 ∷ pos 22 ∷ pos 12 ∷ []; ends = 4 ∷ [] }
+abbrev pub apart : Region
+apart = regionOf (pos 12 ∷ pos 12 ∷ pos 12 ∷ pos 22 ∷ pos 22 ∷ pos 22 ∷ pos 22 ∷ pos 12 ∷ []) (4 ∷ [])
 
 -- outline 5, the triangle
-abbrev pub triangle : Outline
-triangle = record { xs = pos 0 ∷ pos 0 ∷ pos 0 ∷ pos 10 ∷ pos 10 ∷ pos 0 ∷ []; ends = 3 ∷ [] }
+abbrev pub triangle : Region
+triangle = regionOf (pos 0 ∷ pos 0 ∷ pos 0 ∷ pos 10 ∷ pos 10 ∷ pos 0 ∷ []) (3 ∷ [])
 
 -- outline 5, the square
-abbrev pub crossed : Outline
-crossed = record { xs = pos 5 ∷ pos 5 ∷ pos 5 ∷ pos 15 ∷ pos 15 ∷ pos 15 ∷ pos 15 ∷ pos 5 ∷ []; ends = 4 ∷ [] }
+abbrev pub crossed : Region
+crossed = regionOf (pos 5 ∷ pos 5 ∷ pos 5 ∷ pos 15 ∷ pos 15 ∷ pos 15 ∷ pos 15 ∷ pos 5 ∷ []) (4 ∷ [])
 
 -- outline 6
-abbrev pub large : Outline
-large = record { xs = negsuc 9 ∷ negsuc 9 ∷ negsuc 9 ∷ pos 40 ∷ pos 40 ∷ pos 40 ∷ pos 40 ∷ negsuc 9 ∷ []; ends = 4 ∷ [] }
+abbrev pub large : Region
+large = regionOf (negsuc 9 ∷ negsuc 9 ∷ negsuc 9 ∷ pos 40 ∷ pos 40 ∷ pos 40 ∷ pos 40 ∷ negsuc 9 ∷ []) (4 ∷ [])
 
 -- outline 7: four rectangles round A
-abbrev pub ring : Outline
-ring = record { xs = negsuc 9 ∷ negsuc 9 ∷ negsuc 9 ∷ pos 40 ∷ pos 0 ∷ pos 40 ∷ pos 0 ∷ negsuc 9 ∷ pos 0 ∷ pos 10 ∷ pos 0 ∷ pos 40 ∷ pos 10 ∷ pos 40 ∷ pos 10 ∷ pos 10 ∷ pos 0 ∷ negsuc 9 ∷ pos 0 ∷ pos 0 ∷ pos 10 ∷ pos 0 ∷ pos 10 ∷ negsuc 9 ∷ pos 10 ∷ negsuc 9 ∷ pos 10 ∷ pos 40 ∷ pos 40 ∷ pos 40 ∷ pos 40 ∷ negsuc 9 ∷ []; ends = 4 ∷ 8 ∷ 12 ∷ 16 ∷ [] }
+abbrev pub ring : Region
+ring = regionOf (negsuc 9 ∷ negsuc 9 ∷ negsuc 9 ∷ pos 40 ∷ pos 0 ∷ pos 40 ∷ pos 0 ∷ negsuc 9 ∷ pos 0 ∷ pos 10 ∷ pos 0 ∷ pos 40 ∷ pos 10 ∷ pos 40 ∷ pos 10 ∷ pos 10 ∷ pos 0 ∷ negsuc 9 ∷ pos 0 ∷ pos 0 ∷ pos 10 ∷ pos 0 ∷ pos 10 ∷ negsuc 9 ∷ pos 10 ∷ negsuc 9 ∷ pos 10 ∷ pos 40 ∷ pos 40 ∷ pos 40 ∷ pos 40 ∷ negsuc 9 ∷ []) (4 ∷ 8 ∷ 12 ∷ 16 ∷ [])
 
 -- outline 8
-abbrev pub bow-tie : Outline
-bow-tie = record { xs = pos 0 ∷ pos 0 ∷ pos 10 ∷ pos 10 ∷ pos 10 ∷ pos 0 ∷ pos 0 ∷ pos 10 ∷ []; ends = 4 ∷ [] }
+abbrev pub bow-tie : Region
+bow-tie = regionOf (pos 0 ∷ pos 0 ∷ pos 10 ∷ pos 10 ∷ pos 10 ∷ pos 0 ∷ pos 0 ∷ pos 10 ∷ []) (4 ∷ [])
 
 -- outline 9
-abbrev pub flat : Outline
-flat = record { xs = pos 0 ∷ pos 0 ∷ pos 5 ∷ pos 5 ∷ pos 10 ∷ pos 10 ∷ []; ends = 3 ∷ [] }
+abbrev pub flat : Region
+flat = regionOf (pos 0 ∷ pos 0 ∷ pos 5 ∷ pos 5 ∷ pos 10 ∷ pos 10 ∷ []) (3 ∷ [])
 
 -- outline 10: A reversed
-abbrev pub reversed : Outline
-reversed = record { xs = pos 10 ∷ pos 0 ∷ pos 10 ∷ pos 10 ∷ pos 0 ∷ pos 10 ∷ pos 0 ∷ pos 0 ∷ []; ends = 4 ∷ [] }
+abbrev pub reversed : Region
+reversed = regionOf (pos 10 ∷ pos 0 ∷ pos 10 ∷ pos 10 ∷ pos 0 ∷ pos 10 ∷ pos 0 ∷ pos 0 ∷ []) (4 ∷ [])
 
 -- outline 11
-abbrev pub two-vertices : Outline
-two-vertices = record { xs = pos 0 ∷ pos 0 ∷ pos 0 ∷ pos 10 ∷ []; ends = 2 ∷ [] }
+abbrev pub two-vertices : Region
+two-vertices = regionOf (pos 0 ∷ pos 0 ∷ pos 0 ∷ pos 10 ∷ []) (2 ∷ [])
 
 -- outline 12: x 1,000,001
-abbrev pub too-far : Outline
-too-far = record { xs = pos 0 ∷ pos 0 ∷ pos 0 ∷ pos 10 ∷ pos 1000001 ∷ pos 10 ∷ pos 1000001 ∷ pos 0 ∷ []; ends = 4 ∷ [] }
+abbrev pub too-far : Region
+too-far = regionOf (pos 0 ∷ pos 0 ∷ pos 0 ∷ pos 10 ∷ pos 1000001 ∷ pos 10 ∷ pos 1000001 ∷ pos 0 ∷ []) (4 ∷ [])
 
 -- outline 12: x 1,000,000
-abbrev pub at-the-end : Outline
-at-the-end = record { xs = pos 0 ∷ pos 0 ∷ pos 0 ∷ pos 10 ∷ pos 1000000 ∷ pos 10 ∷ pos 1000000 ∷ pos 0 ∷ []; ends = 4 ∷ [] }
+abbrev pub at-the-end : Region
+at-the-end = regionOf (pos 0 ∷ pos 0 ∷ pos 0 ∷ pos 10 ∷ pos 1000000 ∷ pos 10 ∷ pos 1000000 ∷ pos 0 ∷ []) (4 ∷ [])
 
 abbrev pub rows : List Row
 rows =
