@@ -1,6 +1,5 @@
 // Two regions: the pair answer.
 ghost use mathlib.Core.Path.{_≡_};
-ghost use mathlib.Core.Bool.{Bool};
 ghost use Rattle.outline.specs.Region.{regionOf};
 ghost use Rattle.outline.specs.Rules.{Keeps};
 ghost use Rattle.pair.specs.Answer.{refusedWith, orRefused, given, answerOf, pairOf, aroundOf, reportWords};

@@ -1,63 +1,51 @@
 -- What is read of a card lies in it.
---   header-means      the header's counts, offsets and length, where rule 14 is kept
---   entry-there       so is every parcel entry
---   rings-there       every ring entry, where rule 15 is kept too;  entry-few  and each parcel has 1 to 8 rings
---   vertices-there    every vertex, where rules 2, 3 and 16 are, and each parcel has at most 64
---   parcel-sized      and each parcel keeps rules 1 to 3
-use mathlib.Core.Path.{_≡_}
-use mathlib.Core.Bool.{false, not}
-use mathlib.Core.List.{List}
-use Prim.Native.Nat.{ℕ, zero, suc, _+_, _*_, _≤_, _<_}
+--   length-ends, length-numbers    how many ring ends and coordinates parcel k has
+--   ends-read, numbers-read        its ends and coordinates, as they were read to the front of a list
+--   low-word, low-last             a number of two bytes is small, and so is a last end
+--   entry-there       every parcel entry is there, where rule 14 is kept
+--   entry-few         each parcel has a ring and not too many, where rule 15 is kept too;  rings-there  and its ring entries are there
+--   vertices-there    its vertices are there and not too many, where rules 2, 3 and 16 are
+--   parcel-keeps      and it keeps rules 1 to 3
+use mathlib.Core.Path.{_≡_, sym, _∙_}
+use mathlib.Core.List.{List, _++_}
+use Prim.Native.Nat.{ℕ, zero, suc, _+_, _-_, _*_, _≤_, _<_}
 use native.Mathlib.Omega.{arith}
 use native.Mathlib.Decide.{decLt, ℕ-discrete}
-use lib.Dec.{ltb, eqb}
-use lib.ListN.{length, getD, List·getD-eq-default}
-use borrow.Author.Tests.{ltb-false, eqb-true, not-false}
+use lib.IntN.{ℤ}
+use lib.ListN.{length, getD, take, drop, List·getD-eq-default}
 use mir.Syntax.{w8}
 use mir.Val.{Fits}
-use Rattle.plane.specs.Folds.{anyTo, sumTo}
+use mathlib.Core.Bool.{false}
+use Rattle.plane.specs.Folds.{sumTo}
 use Rattle.plane.specs.Lists.{tab}
 use Rattle.plane.proofs.Lists.{length-tab, getD-tab}
-use Rattle.outline.specs.Region.{startOf, lastEnd}
-use Rattle.outline.specs.Check.{shortAt}
-use Rattle.outline.specs.Sized.{Sized}
-use Rattle.outline.proofs.Region.{start-lt}
-use Rattle.slots.proofs.Undamaged.{none-any}
+use Rattle.outline.specs.Region.{mostRings, mostVertices, lastEnd}
+use Rattle.outline.specs.Rules.{Keeps}
+use Rattle.outline.proofs.Ends.{start-lt}
+use Rattle.outline.proofs.Keeps.{sized-keeps}
 use Rattle.endian.specs.Bytes.{u16At}
-use Rattle.parcels.specs.Layout.{parcelsAt, ringsAt, verticesAt, lengthOf}
-use Rattle.parcels.specs.Reading.{parcelCount, ringCount, vertexCount, countAt, firstRing, firstVertex, endsAt, numbersAt}
-use Rattle.parcels.specs.CardNumber.{wrongHeader, wrongEntry, wrongParcels, wrongVertices, sizesNumber}
-use Rattle.parcels.specs.Steps.{RightParcels, RightVertices}
-use Rattle.parcels.proofs.Good.{past, or-false, length-ends, length-numbers, entry-rings}
+use Rattle.parcels.specs.Layout.{cardParcels, cardRings, cardVertices, parcelsAt, ringsAt, verticesAt}
+use Rattle.parcels.specs.Reading.{parcelCount, ringCount, countAt, firstRing, firstVertex, endsAt, numbersAt, regionAt}
+use Rattle.parcels.specs.CardNumber.{wrongHeader}
+use Rattle.parcels.specs.Right.{RightParcels, RightVertices}
+use Rattle.parcels.proofs.Filling.{front}
+use Rattle.parcels.proofs.Tests.{header-means, entry-means, parcels-mean, vertices-mean, sizes-mean}
 
-pub record Header (b : List ℕ) : Type 0 where
-  pub few-parcels : parcelCount b ≤ 32
-  pub few-rings : ringCount b ≤ 256
-  pub few-vertices : vertexCount b ≤ 2048
-  pub first : u16At b 6 ≡ parcelsAt
-  pub second : u16At b 8 ≡ ringsAt (parcelCount b)
-  pub third : u16At b 10 ≡ verticesAt (parcelCount b) (ringCount b)
-  pub total : length b ≡ lengthOf (parcelCount b) (ringCount b) (vertexCount b)
+pub length-ends : (b : List ℕ) (k : ℕ) → length (endsAt b k) ≡ countAt b k
+unfolding endsAt
+length-ends b k = length-tab _ (countAt b k)
 
-pub header-means : (b : List ℕ) → wrongHeader b ≡ false → Header b
-unfolding wrongHeader
-header-means b h =
-    let x1 = or-false (ltb (length b) 12) _ h .1 in
-    let x2 = or-false (ltb 32 (parcelCount b)) _ x1 in
-    let x3 = or-false (ltb 256 (ringCount b)) _ (x2 .1) in
-    let x4 = or-false (ltb 2048 (vertexCount b)) _ (x3 .1) in
-    let x5 = or-false (not (eqb (u16At b 6) parcelsAt)) _ (x4 .1) in
-    let x6 = or-false (not (eqb (u16At b 8) (ringsAt (parcelCount b)))) _ (x5 .1) in
-    let x7 = or-false (not (eqb (u16At b 10) (verticesAt (parcelCount b) (ringCount b)))) _ (x6 .1) in
-    record {
-      few-parcels = ltb-false _ _ (x2 .0);
-      few-rings = ltb-false _ _ (x3 .0);
-      few-vertices = ltb-false _ _ (x4 .0);
-      first = eqb-true _ _ (not-false (eqb (u16At b 6) parcelsAt) (x5 .0));
-      second = eqb-true _ _ (not-false (eqb (u16At b 8) (ringsAt (parcelCount b))) (x6 .0));
-      third = eqb-true _ _ (not-false (eqb (u16At b 10) (verticesAt (parcelCount b) (ringCount b))) (x7 .0));
-      total = eqb-true _ _ (not-false (eqb (length b) (lengthOf (parcelCount b) (ringCount b) (vertexCount b))) (x7 .1));
-    }
+pub length-numbers : (b : List ℕ) (k : ℕ) → length (numbersAt b k) ≡ 2 * lastEnd (endsAt b k)
+unfolding numbersAt
+length-numbers b k = length-tab _ (2 * lastEnd (endsAt b k))
+
+-- the lists that were read, as the part of their places is lent
+module _ (b : List ℕ) (k : ℕ) where
+  pub ends-read : {n : ℕ} {l : List ℕ} (l₀ : List ℕ) → n ≡ countAt b k → l ≡ endsAt b k ++ drop n l₀ → take (n - 0) (drop 0 l) ≡ endsAt b k
+  ends-read {n} l₀ e f = front n (endsAt b k) l₀ f (length-ends b k ∙ sym e)
+
+  pub numbers-read : {n : ℕ} {l : List ℤ} (l₀ : List ℤ) → n ≡ 2 * lastEnd (endsAt b k) → l ≡ numbersAt b k ++ drop n l₀ → take (n - 0) (drop 0 l) ≡ numbersAt b k
+  numbers-read {n} l₀ e f = front n (numbersAt b k) l₀ f (length-numbers b k ∙ sym e)
 
 -- numbers of two bytes
 module _ (b : List ℕ) (known : (j : ℕ) → Fits w8 (getD b j 0)) where
@@ -87,72 +75,59 @@ sum-part f (suc n) k l =
 
 -- where the ring entries and the vertices of parcel k stand
 pub record RingPart (b : List ℕ) (k : ℕ) : Type 0 where
-  pub few : countAt b k ≤ 8
-  pub low : firstRing b k ≤ 256
-  pub start : ringsAt (parcelCount b) ≤ 140
+  pub few : countAt b k ≤ mostRings
+  pub low : firstRing b k ≤ cardRings
+  pub start : ringsAt (parcelCount b) ≤ ringsAt cardParcels
   pub inside : ringsAt (parcelCount b) + 2 * (firstRing b k + countAt b k) ≤ length b
 
 pub record VertexPart (b : List ℕ) (k : ℕ) : Type 0 where
-  pub few : lastEnd (endsAt b k) ≤ 64
-  pub low : firstVertex b k ≤ 2048
-  pub start : verticesAt (parcelCount b) (ringCount b) ≤ 652
+  pub few : lastEnd (endsAt b k) ≤ mostVertices
+  pub low : firstVertex b k ≤ cardVertices
+  pub start : verticesAt (parcelCount b) (ringCount b) ≤ verticesAt cardParcels cardRings
   pub inside : verticesAt (parcelCount b) (ringCount b) + 8 * (firstVertex b k + lastEnd (endsAt b k)) ≤ length b
 
-module _ (b : List ℕ) (h : wrongHeader b ≡ false) where
-  pub entry-there : (k : ℕ) → k < parcelCount b → parcelsAt + 4 * k + 4 ≤ length b
-  entry-there k l = omega (arith, header-means b h .total)
+pub entry-there : (b : List ℕ) → wrongHeader b ≡ false → (k : ℕ) → k < parcelCount b → parcelsAt + 4 * k + 4 ≤ length b
+entry-there b h k l = omega (arith, header-means b h .total)
 
-module _ (b : List ℕ) (right : RightParcels b) where
-  parts : (anyTo (wrongEntry b) (parcelCount b) ≡ false) × (not (eqb (sumTo (countAt b) (parcelCount b)) (ringCount b)) ≡ false)
-  unfolding wrongParcels
-  parts = or-false (anyTo (wrongEntry b) (parcelCount b)) _ (right .parcels)
+module _ (b : List ℕ) (right : RightParcels b) (k : ℕ) (l : k < parcelCount b) where
+  pub entry-few : (1 ≤ countAt b k) × (countAt b k ≤ mostRings)
+  entry-few = let e = entry-means b k (parcels-mean b .0 (right .parcels) .0 k l) in (omega (arith, e .some), e .few)
 
-  pub entry-few : (k : ℕ) → k < parcelCount b → (1 ≤ countAt b k) × (countAt b k ≤ 8)
-  entry-few k l = entry-rings b k (none-any (wrongEntry b) (parcelCount b) k (parts .0) l)
-
-  rings-all : sumTo (countAt b) (parcelCount b) ≡ ringCount b
-  rings-all = eqb-true _ _ (not-false (eqb (sumTo (countAt b) (parcelCount b)) (ringCount b)) (parts .1))
-
-  pub rings-there : (k : ℕ) → k < parcelCount b → RingPart b k
+  pub rings-there : RingPart b k
   unfolding firstRing
-  rings-there k l =
+  rings-there =
       let h = header-means b (right .header) in
+      let all = parcels-mean b .0 (right .parcels) .1 in
       let s = sum-part (countAt b) (parcelCount b) k l in
       record {
-        few = entry-few k l .1;
-        low = omega (arith, s, rings-all, h .few-rings);
+        few = entry-few .1;
+        low = omega (arith, s, all, h .few-rings);
         start = omega (arith, h .few-parcels);
-        inside = omega (arith, s, rings-all, h .total);
+        inside = omega (arith, s, all, h .total);
       }
 
 module _ (b : List ℕ) (right : RightVertices b) (k : ℕ) (l : k < parcelCount b) where
-  tests : (anyTo (shortAt (endsAt b k)) (length (endsAt b k)) ≡ false) × (lastEnd (endsAt b k) ≤ 64)
-  unfolding sizesNumber
-  tests =
-      let s = past (anyTo (shortAt (endsAt b k)) (length (endsAt b k))) 2 _ (omega arith) (right .sizes k l) in
-      (s .0, ltb-false 64 (lastEnd (endsAt b k)) (past (ltb 64 (lastEnd (endsAt b k))) 3 0 (omega arith) (s .1) .0))
-
   pub vertices-there : VertexPart b k
-  unfolding firstVertex wrongVertices
+  unfolding firstVertex
   vertices-there =
-      let e : sumTo (λ i. lastEnd (endsAt b i)) (parcelCount b) ≡ vertexCount b = eqb-true _ _ (not-false (eqb (sumTo (λ i. lastEnd (endsAt b i)) (parcelCount b)) (vertexCount b)) (right .vertices)) in
-      let s = sum-part (λ i. lastEnd (endsAt b i)) (parcelCount b) k l in
       let h = header-means b (right .parcels .header) in
+      let all = vertices-mean b .0 (right .vertices) in
+      let s = sum-part (λ i. lastEnd (endsAt b i)) (parcelCount b) k l in
       record {
-        few = tests .1;
-        low = omega (arith, s, e, h .few-vertices);
+        few = sizes-mean b k .0 (right .sizes k l) .1;
+        low = omega (arith, s, all, h .few-vertices);
         start = omega (arith, h .few-parcels, h .few-rings);
-        inside = omega (arith, s, e, h .total);
+        inside = omega (arith, s, all, h .total);
       }
 
-  pub parcel-sized : Sized (numbersAt b k) (endsAt b k)
-  unfolding shortAt
-  parcel-sized =
+  pub parcel-keeps : Keeps 3 (regionAt b k)
+  parcel-keeps =
       let few = entry-few b (right .parcels) k l in
-      record {
+      let sizes = sizes-mean b k .0 (right .sizes k l) in
+      sized-keeps (record {
         some = omega (arith, length-ends b k, few .0);
         few = omega (arith, length-ends b k, few .1);
-        grown = λ r m. ltb-false (getD (endsAt b k) r 0) (startOf (endsAt b k) r + 3) (none-any (shortAt (endsAt b k)) (length (endsAt b k)) r (tests .0) m);
-        small = tests .1;
+        grown = sizes .0;
+        small = sizes .1;
         listed = length-numbers b k;
-      }
+      })

@@ -1,8 +1,6 @@
-pub mod Good
-pub mod FirstNumber
-pub mod GoodMeans
-pub mod Bounds
-pub mod Sums
 pub mod Filling
-pub mod CardTests
+pub mod Sums
+pub mod Tests
+pub mod Bounds
+pub mod Good
 pub mod Only

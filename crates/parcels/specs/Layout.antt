@@ -1,19 +1,21 @@
--- Document 01: "A header of six u16: parcels, rings, vertices, then offsets of the three parts, which are 12, 12 + 4·parcels, and that +
--- 2·rings. Parcel entry: slot u16, ring count u16. Ring entry: u16 end, counted within its parcel. Vertex: i32 x, i32 y. The length is
--- exactly the last offset + 8·vertices." Reading and writing both take their places from here.
---   mostParcels, mostRings, mostVertices       what a header may count
+-- Document 01, "The card": a header of six numbers (how many parcels, rings and vertices, and where their three parts begin), then four bytes
+-- for each parcel, two for each ring end and eight for each vertex, and nothing behind. Reading and writing take their places from here.
+--   cardParcels, cardRings, cardVertices       what a header may count;  lastCardSlot  the highest slot that an entry may name
 --   parcelsAt, ringsAt, verticesAt             where the three parts begin
 --   lengthOf                                   the card's length
 use Prim.Native.Nat.{ℕ, _+_, _*_}
 
-abbrev pub mostParcels : ℕ
-mostParcels = 32
+abbrev pub cardParcels : ℕ
+cardParcels = 32
 
-abbrev pub mostRings : ℕ
-mostRings = 256
+abbrev pub cardRings : ℕ
+cardRings = 256
 
-abbrev pub mostVertices : ℕ
-mostVertices = 2048
+abbrev pub cardVertices : ℕ
+cardVertices = 2048
+
+abbrev pub lastCardSlot : ℕ
+lastCardSlot = 31
 
 abbrev pub parcelsAt : ℕ
 parcelsAt = 12

@@ -2,4 +2,5 @@ pub mod Layout
 pub mod Reading
 pub mod CardNumber
 pub mod Good
-pub mod Steps
+pub mod Right
+pub mod Pairs

@@ -2,7 +2,8 @@
 --   parcelCount, ringCount, vertexCount     the header's counts
 --   slotAt b k, countAt b k                 the slot and the ring count of parcel entry k
 --   firstRing b k, firstVertex b k          how many rings and how many vertices the parcels before k have
---   endsAt b k, numbersAt b k               the ring ends and the coordinates of parcel k
+--   endsAt b k, numbersAt b k               the ring ends and the coordinates of parcel k;  regionAt b k  the region that they are
+--   entryOf b i                             the first entry that names slot i, or the number of entries
 --   parcelIn b i                            what the card puts into slot i
 use mathlib.Core.List.{List}
 use Prim.Native.Nat.{ℕ, _+_, _*_}
@@ -11,8 +12,7 @@ use lib.IntN.{ℤ}
 use Rattle.plane.specs.Choice.{pick}
 use Rattle.plane.specs.Folds.{sumTo, firstOf}
 use Rattle.plane.specs.Lists.{tab}
-use Rattle.outline.specs.Region.{lastEnd}
-use Rattle.slots.specs.Layout.{Parcel, nothing, outline}
+use Rattle.outline.specs.Region.{Region, regionOf, Parcel, nothing, outline, lastEnd}
 use Rattle.endian.specs.Bytes.{u16At, i32At}
 use Rattle.parcels.specs.Layout.{parcelsAt, ringsAt, verticesAt}
 
@@ -43,8 +43,11 @@ firstVertex b k = sumTo (λ i. lastEnd (endsAt b i)) k
 unfoldable pub numbersAt : List ℕ → ℕ → List ℤ
 numbersAt b k = tab (λ i. i32At b (verticesAt (parcelCount b) (ringCount b) + 8 * firstVertex b k + 4 * i)) (2 * lastEnd (endsAt b k))
 
+abbrev pub regionAt : List ℕ → ℕ → Region
+regionAt b k = regionOf (numbersAt b k) (endsAt b k)
+
 unfoldable pub entryOf : List ℕ → ℕ → ℕ
 entryOf b i = firstOf (λ k. eqb (slotAt b k) i) (parcelCount b)
 
 unfoldable pub parcelIn : List ℕ → ℕ → Parcel
-parcelIn b i = pick (ltb (entryOf b i) (parcelCount b)) (outline (numbersAt b (entryOf b i)) (endsAt b (entryOf b i))) nothing
+parcelIn b i = pick (ltb (entryOf b i) (parcelCount b)) (outline (regionAt b (entryOf b i))) nothing

@@ -3,9 +3,11 @@ ghost use mathlib.Core.Path.{_≡_};
 ghost use mathlib.Core.Bool.{false, _&&_};
 ghost use Prim.Native.Nat.{_-_, _<_};
 ghost use lib.Dec.{leb, ltb};
+ghost use Rattle.outline.specs.Refusals.{firstNumber};
 ghost use Rattle.parcels.specs.Reading.{parcelCount, slotAt};
-ghost use Rattle.parcels.specs.CardNumber.{wrongHeader, wrongEntry, wrongParcels, sizesNumber, wrongVertices, shapeNumber, firstNumber, cardNumber};
-ghost use Rattle.parcels.specs.Steps.{RightParcels, RightVertices};
+ghost use Rattle.parcels.specs.CardNumber.{wrongHeader, wrongEntry, wrongParcels, sizesNumber, wrongVertices, shapeNumber, cardNumber};
+ghost use Rattle.parcels.specs.Right.{RightParcels, RightVertices};
+use crate::MOST_NUMBERS;
 use crate::PARCELS_AT;
 use crate::count_at;
 use crate::first_ring;
@@ -26,13 +28,14 @@ use outline::refusals::CARD_PARCELS;
 use outline::refusals::CARD_VERTICES;
 use outline::refusals::LIST_SIZE;
 use outline::refusals::RING_LENGTH;
-use slots::storage::LAST_SLOT;
 
-const CARD_MOST_PARCELS: usize = 32;
+const MOST_CARD_PARCELS: usize = 32;
 
-const CARD_MOST_RINGS: usize = 256;
+const MOST_CARD_RINGS: usize = 256;
 
-const CARD_MOST_VERTICES: usize = 2048;
+const MOST_CARD_VERTICES: usize = 2048;
+
+const LAST_CARD_SLOT: u16 = 31;
 
 fn wrong_header(card: &[u8]) -> bool
     ensures { λ t. ⌜ t ≡ wrongHeader (now (card .entry)) ⌝ }
@@ -41,15 +44,15 @@ fn wrong_header(card: &[u8]) -> bool
         return true;
     }
     let parcels = u16_at(card, 0) as usize;
-    if CARD_MOST_PARCELS < parcels {
+    if MOST_CARD_PARCELS < parcels {
         return true;
     }
     let rings = u16_at(card, 2) as usize;
-    if CARD_MOST_RINGS < rings {
+    if MOST_CARD_RINGS < rings {
         return true;
     }
     let vertices = u16_at(card, 4) as usize;
-    if CARD_MOST_VERTICES < vertices {
+    if MOST_CARD_VERTICES < vertices {
         return true;
     }
     if u16_at(card, 6) as usize != PARCELS_AT {
@@ -84,7 +87,7 @@ fn wrong_entry(card: &[u8], k: usize) -> bool
     if falls_back(card, k) {
         return true;
     }
-    if LAST_SLOT < slot_at(card, k) {
+    if LAST_CARD_SLOT < slot_at(card, k) {
         return true;
     }
     let count = count_at(card, k);
@@ -114,14 +117,12 @@ fn sizes_number(card: &[u8], k: usize) -> u16
     requires { ⌜ RightParcels (now card) × (k < parcelCount (now card)) ⌝ }
     ensures { λ n. ⌜ n ≡ sizesNumber (now (card .entry)) k ⌝ }
 {
-    let mut list = [0u16; 8];
-    let n = read_ends(card, k, &mut list);
-    let short = first_short(&list[0..n]);
-    let last = last_end(&list[0..n]);
-    if short < n {
+    let mut ends = [0u16; MOST_RINGS];
+    let n = read_ends(card, k, &mut ends);
+    if first_short(&ends[0..n]) < n {
         return RING_LENGTH;
     }
-    if MOST_VERTICES < last {
+    if MOST_VERTICES < last_end(&ends[0..n]) {
         return LIST_SIZE;
     }
     0
@@ -155,11 +156,11 @@ fn shape_number(card: &[u8], k: usize) -> u16
     requires { ⌜ RightVertices (now card) × (k < parcelCount (now card)) ⌝ }
     ensures { λ n. ⌜ n ≡ shapeNumber (now (card .entry)) k ⌝ }
 {
-    let mut list = [0u16; 8];
-    let rings = read_ends(card, k, &mut list);
-    let mut numbers = [0i32; 128];
+    let mut ends = [0u16; MOST_RINGS];
+    let rings = read_ends(card, k, &mut ends);
+    let mut numbers = [0i32; MOST_NUMBERS];
     let n = read_numbers(card, k, &mut numbers);
-    number_of(check_shape(&numbers[0..n], &list[0..rings]))
+    number_of(check_shape(&numbers[0..n], &ends[0..rings]))
 }
 
 fn first_shape(card: &[u8]) -> u16

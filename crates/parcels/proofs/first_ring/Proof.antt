@@ -3,13 +3,11 @@ use Prim.Native.Nat.{_+_, _*_, _-_}
 use native.Mathlib.Omega.{arith}
 use Rattle.parcels.specs.Layout.{parcelsAt}
 use Rattle.parcels.specs.Reading.{countAt, firstRing}
-use Rattle.parcels.proofs.Bounds.{header-means, entry-there, low-word}
+use Rattle.parcels.proofs.Tests.{header-means}
+use Rattle.parcels.proofs.Bounds.{entry-there, low-word}
 use borrow.Author.Needs.{needs}
 use Rattle.parcels.proofs.first_ring.Statement.{statement}
 use Rattle.parcels.proofs.first_ring.Tie as tie
-use Rattle.parcels.proofs.first_ring.Reads as reads
-use Rattle.parcels.proofs.first_ring.Lts as lts
-use Rattle.parcels.proofs.count_at.Reads as count-at-reads
 
 abbrev Inv-loop : tie.InvT-loop
 Inv-loop card k rings₀ i₀ rings i = Summing (countAt card) 65535 k i rings

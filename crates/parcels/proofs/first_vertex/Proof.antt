@@ -2,14 +2,12 @@ use Prim.Native.Nat.{_-_}
 use native.Mathlib.Omega.{arith}
 use Rattle.outline.specs.Region.{lastEnd}
 use Rattle.parcels.specs.Reading.{endsAt, firstVertex}
-use Rattle.parcels.proofs.Bounds.{header-means, low-last}
+use Rattle.parcels.proofs.Tests.{header-means}
+use Rattle.parcels.proofs.Bounds.{low-last}
 use Rattle.parcels.proofs.Sums.{Summing, summing-none, summing-more, summing-all}
 use borrow.Author.Needs.{needs}
 use Rattle.parcels.proofs.first_vertex.Statement.{statement}
 use Rattle.parcels.proofs.first_vertex.Tie as tie
-use Rattle.parcels.proofs.first_vertex.Reads as reads
-use Rattle.parcels.proofs.first_vertex.Lts as lts
-use Rattle.parcels.proofs.vertices_of.Reads as vertices-of-reads
 
 abbrev Inv-loop : tie.InvT-loop
 Inv-loop card k vertices₀ i₀ vertices i = Summing (λ j. lastEnd (endsAt card j)) 65535 k i vertices

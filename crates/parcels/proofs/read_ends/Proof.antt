@@ -1,29 +1,24 @@
-use mathlib.Core.Path.{sym, _∙_, ap}
-use mathlib.Core.List.{List}
+use mathlib.Core.Path.{_∙_, ap}
+use mathlib.Core.List.{List, _++_}
 use Prim.Native.Nat.{ℕ, _+_, _*_, _≤_, _-_}
 use native.Mathlib.Omega.{arith}
-use lib.ListN.{length}
+use lib.ListN.{length, drop}
 use Rattle.plane.specs.Lists.{tab}
+use Rattle.outline.specs.Region.{mostRings}
 use Rattle.endian.specs.Bytes.{u16At}
-use Rattle.parcels.specs.Layout.{ringsAt}
+use Rattle.parcels.specs.Layout.{cardParcels, cardRings, ringsAt, verticesAt}
 use Rattle.parcels.specs.Reading.{parcelCount, firstRing, endsAt}
 use Rattle.parcels.proofs.Bounds.{RingPart, entry-there, rings-there}
 use Rattle.parcels.proofs.Filling.{Filling, filling-none, filling-more, filling-all}
 use borrow.Author.Needs.{needs}
 use Rattle.parcels.proofs.read_ends.Statement.{statement}
 use Rattle.parcels.proofs.read_ends.Tie as tie
-use Rattle.parcels.proofs.read_ends.Reads as reads
-use Rattle.parcels.proofs.read_ends.Lts as lts
-use Rattle.endian.proofs.u16_at.Reads as u16-at-reads
-use Rattle.parcels.proofs.count_at.Reads as count-at-reads
-use Rattle.parcels.proofs.first_ring.Reads as first-ring-reads
-use Rattle.parcels.proofs.rings_at.Reads as rings-at-reads
 
 abbrev word : List ℕ → ℕ → ℕ → ℕ
 word card k i = u16At card (ringsAt (parcelCount card) + 2 * (firstRing card k + i))
 
 abbrev Inv-loop : tie.InvT-loop
-Inv-loop card k ends₀ n from i₀ ends i = Filling (word card k) 0 n 8 i ends
+Inv-loop card k ends₀ n from i₀ ends i = Filling (word card k) 0 n ends₀ i ends
 
 abbrev μ-loop : tie.MeasureT-loop
 μ-loop card k ends₀ n from i₀ ends i = n - i
@@ -32,7 +27,7 @@ abbrev μ-loop : tie.MeasureT-loop
 part : (c : tie.After-first-ring Inv-loop μ-loop)
     → let n = c .before .before .count-at .result in
     let from = c .before .rings-at .result + 2 * c .first-ring .result in
-    (n ≤ 8) × (from ≤ 652) × (from + 2 * n ≤ length (c .before .before .before .before .before .args .card .now))
+    (n ≤ mostRings) × (from ≤ verticesAt cardParcels cardRings) × (from + 2 * n ≤ length (c .before .before .before .before .before .args .card .now))
 part c =
     let s = c .before .before .before .before .before in
     let r : RingPart (s .args .card .now) (s .args .k) = rings-there (s .args .card .now) (s .pre .0) (s .args .k) (s .pre .1) in
@@ -57,7 +52,7 @@ add-from : tie.Need-add-from Inv-loop μ-loop
 add-from c = record { fits = omega (arith, part c .1) }
 
 loop-holds : tie.Need-loop-holds Inv-loop μ-loop
-loop-holds c = let s = c .before .before .before .before .before in filling-none (word (s .args .card .now) (s .args .k)) 0 _ 8 (s .args .ends .now) (s .pre .2)
+loop-holds c = let s = c .before .before .before .before .before in filling-none (word (s .args .card .now) (s .args .k)) 0 _ (s .args .ends .now)
 
 mul-u16-at : tie.Need-mul-u16-at Inv-loop μ-loop
 mul-u16-at c = record { fits = omega (arith, part (c .before .before) .0) }
@@ -72,7 +67,7 @@ mul-ends : tie.Need-mul-ends Inv-loop μ-loop
 mul-ends c = record { fits = omega (arith, part (c .before .before .before) .0) }
 
 slice-write-ends : tie.Need-slice-write-ends Inv-loop μ-loop
-slice-write-ends c = omega (arith, part (c .before .before .before) .0, c .before .before .loop .inv .1)
+slice-write-ends c = omega (arith, part (c .before .before .before) .0, c .before .before .loop .inv .1, c .before .before .before .before .before .before .before .before .pre .2)
 
 add-i : tie.Need-add-i Inv-loop μ-loop
 add-i c = search needs
@@ -85,11 +80,11 @@ loop-again c =
     let p = c .before .before in
     let f = p .before in
     let s = f .before .before .before .before .before in
-    filling-more (word (s .args .card .now) (s .args .k)) 0 _ 8 (p .loop .i) (p .loop .ends) (omega arith) (part f .0) (p .loop .inv)
+    filling-more (word (s .args .card .now) (s .args .k)) 0 _ (s .args .ends .now) (p .loop .i) (p .loop .ends) (omega arith) (omega (arith, part f .0, s .pre .2)) (p .loop .inv)
     (c .u16-at .ensures ∙ ap (u16At (s .args .card .now)) (omega (arith, f .before .rings-at .ensures, f .first-ring .ensures)))
 
 same-length : tie.Need-same-length Inv-loop μ-loop
-same-length c = c .before .loop .inv .1 ∙ sym (c .before .before .before .before .before .before .before .pre .2)
+same-length c = c .before .loop .inv .1
 
 returns : tie.Need-returns Inv-loop μ-loop
 unfolding endsAt
@@ -98,8 +93,8 @@ returns c =
     let f = c .before .before in
     let s = f .before .before .before .before .before in
     let n = f .before .before .count-at .ensures in
-    let all = filling-all (word (s .args .card .now) (s .args .k)) 0 _ 8 (p .i) (p .ends) (omega arith) (part f .0) (p .inv) in
-    (n, all ∙ ap (tab (word (s .args .card .now) (s .args .k))) n)
+    let all = filling-all (word (s .args .card .now) (s .args .k)) 0 _ (s .args .ends .now) (p .i) (p .ends) (omega arith) (omega (arith, part f .0, s .pre .2)) (p .inv) in
+    (n, all ∙ ap (λ (m : ℕ). tab (word (s .args .card .now) (s .args .k)) m ++ drop (f .before .before .count-at .result) (s .args .ends .now)) n)
 
 pub read-ends-spec : {M : Type 1} → statement M
 read-ends-spec =

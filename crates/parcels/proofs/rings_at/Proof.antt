@@ -1,11 +1,8 @@
 use native.Mathlib.Omega.{arith}
-use Rattle.parcels.proofs.Bounds.{header-means}
+use Rattle.parcels.proofs.Tests.{header-means}
 use borrow.Author.Needs.{needs}
 use Rattle.parcels.proofs.rings_at.Statement.{statement}
 use Rattle.parcels.proofs.rings_at.Tie as tie
-use Rattle.parcels.proofs.rings_at.Reads as reads
-use Rattle.parcels.proofs.rings_at.Lts as lts
-use Rattle.parcels.proofs.parcel_count.Reads as parcel-count-reads
 
 parcel-count-requires : tie.Need-parcel-count-requires
 parcel-count-requires c κs = omega (arith, header-means (c .before .args .card .now) (c .before .pre) .total)

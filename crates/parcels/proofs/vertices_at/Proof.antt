@@ -1,12 +1,8 @@
 use native.Mathlib.Omega.{arith}
-use Rattle.parcels.proofs.Bounds.{header-means}
+use Rattle.parcels.proofs.Tests.{header-means}
 use borrow.Author.Needs.{needs}
 use Rattle.parcels.proofs.vertices_at.Statement.{statement}
 use Rattle.parcels.proofs.vertices_at.Tie as tie
-use Rattle.parcels.proofs.vertices_at.Reads as reads
-use Rattle.parcels.proofs.vertices_at.Lts as lts
-use Rattle.endian.proofs.u16_at.Reads as u16-at-reads
-use Rattle.parcels.proofs.rings_at.Reads as rings-at-reads
 
 rings-at-requires : tie.Need-rings-at-requires
 rings-at-requires c κs = search needs

@@ -1,15 +1,10 @@
 use mathlib.Core.Path.{_∙_, ap}
 use native.Mathlib.Omega.{arith}
 use Rattle.outline.specs.Region.{lastEnd}
-use Rattle.parcels.proofs.Bounds.{entry-few}
-use Rattle.parcels.proofs.Filling.{front}
+use Rattle.parcels.proofs.Bounds.{ends-read, entry-few}
 use borrow.Author.Needs.{needs}
 use Rattle.parcels.proofs.vertices_of.Statement.{statement}
 use Rattle.parcels.proofs.vertices_of.Tie as tie
-use Rattle.parcels.proofs.vertices_of.Reads as reads
-use Rattle.parcels.proofs.vertices_of.Lts as lts
-use Rattle.parcels.proofs.read_ends.Reads as read-ends-reads
-use Rattle.outline.proofs.last_end.Reads as last-end-reads
 
 slice-aggregate-read-ends : tie.Need-slice-aggregate-read-ends
 slice-aggregate-read-ends c = search needs
@@ -36,7 +31,8 @@ last-end-requires c κs = search needs
 returns : tie.Need-returns
 returns c =
     let e = c .before .before .before .before in
-    c .last-end .ensures ∙ ap lastEnd (front (e .read-ends .result) (e .read-ends .last .1 .1 .0) ∙ e .read-ends .ensures .1)
+    let s = e .before .before .before in
+    c .last-end .ensures ∙ ap lastEnd (ends-read (s .args .card .now) (s .args .k) _ (e .read-ends .ensures .0) (e .read-ends .ensures .1))
 
 pub vertices-of-spec : {M : Type 1} → statement M
 vertices-of-spec =

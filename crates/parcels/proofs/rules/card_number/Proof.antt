@@ -1,20 +1,38 @@
-use mathlib.Core.Path.{_≡_, sym, _∙_}
-use mathlib.Core.Bool.{false}
-use Rattle.parcels.specs.Reading.{parcelCount}
-use Rattle.parcels.specs.CardNumber.{wrongHeader, wrongParcels, sizesNumber, firstNumber}
-use Rattle.parcels.proofs.CardTests.{card-header-wrong, card-parcels-wrong, card-sizes-wrong, card-vertices-wrong, card-last, right-vertices}
+use mathlib.Core.Path.{_≡_, refl, sym, _∙_}
+use mathlib.Core.Logic.{_≢_}
+use mathlib.Core.Bool.{true, false}
+use mathlib.Core.List.{List}
+use Prim.Native.Nat.{ℕ}
 use borrow.Author.Needs.{needs}
+use Rattle.outline.specs.Refusals.{firstNumber}
+use Rattle.outline.proofs.OrElse.{or-else-first}
+use Rattle.parcels.specs.Reading.{parcelCount}
+use Rattle.parcels.specs.CardNumber.{wrongHeader, wrongParcels, sizesNumber, wrongVertices, shapeNumber, cardNumber}
+use Rattle.parcels.proofs.Good.{right-vertices, card-header-wrong}
 use Rattle.parcels.proofs.rules.card_number.Statement.{statement}
 use Rattle.parcels.proofs.rules.card_number.Tie as tie
-use Rattle.parcels.proofs.rules.card_number.Reads as reads
-use Rattle.parcels.proofs.rules.card_number.Lts as lts
-use Rattle.parcels.proofs.rules.first_shape.Reads as first-shape-reads
-use Rattle.parcels.proofs.rules.first_sizes.Reads as first-sizes-reads
-use Rattle.parcels.proofs.rules.wrong_header.Reads as wrong-header-reads
-use Rattle.parcels.proofs.rules.wrong_parcels.Reads as wrong-parcels-reads
-use Rattle.parcels.proofs.rules.wrong_vertices.Reads as wrong-vertices-reads
 
--- rule 14 is kept;  and rule 15;  and rules 2 and 3
+-- ---- the card's number, one refusal after another
+module _ (b : List ℕ) (h : wrongHeader b ≡ false) where
+  parcels-wrong : wrongParcels b ≡ true → 15 ≡ cardNumber b
+  unfolding cardNumber
+  parcels-wrong p = rw (h, p) refl
+
+  module _ (p : wrongParcels b ≡ false) where
+    sizes-wrong : {n : ℕ} → n ≡ firstNumber (sizesNumber b) (parcelCount b) → n ≢ 0 → n ≡ cardNumber b
+    unfolding cardNumber
+    sizes-wrong e z = rw (h, p) (e ∙ sym (or-else-first (firstNumber (sizesNumber b) (parcelCount b)) _ (λ q. z (e ∙ q))))
+
+    module _ (z : firstNumber (sizesNumber b) (parcelCount b) ≡ 0) where
+      vertices-wrong : wrongVertices b ≡ true → 16 ≡ cardNumber b
+      unfolding cardNumber
+      vertices-wrong v = rw (h, p, z, v) refl
+
+      shapes-left : wrongVertices b ≡ false → {n : ℕ} → n ≡ firstNumber (shapeNumber b) (parcelCount b) → n ≡ cardNumber b
+      unfolding cardNumber
+      shapes-left v e = rw (h, p, z, v) e
+
+-- ---- rule 14 is kept;  and rule 15;  and rules 2 and 3
 one : (c : tie.Else1) → wrongHeader (c .before .before .before .args .card .now) ≡ false
 one c = sym (c .before .wrong-header .ensures) ∙ c .if1 .left
 
@@ -36,13 +54,13 @@ wrong-parcels-requires : tie.Need-wrong-parcels-requires
 wrong-parcels-requires c κs = one c
 
 returns-2 : tie.Need-returns-2
-returns-2 c = card-parcels-wrong _ (one (c .before .before)) (sym (c .before .wrong-parcels .ensures) ∙ c .if2 .taken)
+returns-2 c = parcels-wrong _ (one (c .before .before)) (sym (c .before .wrong-parcels .ensures) ∙ c .if2 .taken)
 
 first-sizes-requires : tie.Need-first-sizes-requires
 first-sizes-requires c κs = record { header = one (c .before .before); parcels = two c }
 
 returns-3 : tie.Need-returns-3
-returns-3 c = card-sizes-wrong _ (one (c .before .before .before .before)) (two (c .before .before)) (c .before .first-sizes .ensures) (c .if3 .taken)
+returns-3 c = sizes-wrong _ (one (c .before .before .before .before)) (two (c .before .before)) (c .before .first-sizes .ensures) (c .if3 .taken)
 
 wrong-vertices-requires : tie.Need-wrong-vertices-requires
 wrong-vertices-requires c κs = record { header = one (c .before .before .before .before); parcels = two (c .before .before) }
@@ -50,7 +68,7 @@ wrong-vertices-requires c κs = record { header = one (c .before .before .before
 returns-4 : tie.Need-returns-4
 returns-4 c =
     let e = c .before .before in
-    card-vertices-wrong _ (one (e .before .before .before .before)) (two (e .before .before)) (three e) (sym (c .before .wrong-vertices .ensures) ∙ c .if4 .taken)
+    vertices-wrong _ (one (e .before .before .before .before)) (two (e .before .before)) (three e) (sym (c .before .wrong-vertices .ensures) ∙ c .if4 .taken)
 
 first-shape-requires : tie.Need-first-shape-requires
 first-shape-requires c κs =
@@ -61,7 +79,7 @@ returns-5 : tie.Need-returns-5
 returns-5 c =
     let w = c .before in
     let e = w .before .before in
-    card-last _ (one (e .before .before .before .before)) (two (e .before .before)) (three e) (sym (w .before .wrong-vertices .ensures) ∙ w .if4 .left) (c .first-shape .ensures)
+    shapes-left _ (one (e .before .before .before .before)) (two (e .before .before)) (three e) (sym (w .before .wrong-vertices .ensures) ∙ w .if4 .left) (c .first-shape .ensures)
 
 pub card-number-spec : {M : Type 1} → statement M
 card-number-spec =

@@ -8,9 +8,6 @@ use Rattle.parcels.proofs.Bounds.{entry-there}
 use borrow.Author.Needs.{needs}
 use Rattle.parcels.proofs.rules.falls_back.Statement.{statement}
 use Rattle.parcels.proofs.rules.falls_back.Tie as tie
-use Rattle.parcels.proofs.rules.falls_back.Reads as reads
-use Rattle.parcels.proofs.rules.falls_back.Lts as lts
-use Rattle.parcels.proofs.slot_at.Reads as slot-at-reads
 
 past : (x : Bool) {y : Bool} → x ≡ true → y ≡ x && y
 past x e = rw e refl

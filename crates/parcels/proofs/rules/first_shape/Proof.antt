@@ -1,18 +1,14 @@
 use mathlib.Core.Path.{ap}
-use Rattle.parcels.specs.CardNumber.{firstNumber}
+use Rattle.outline.specs.Refusals.{firstNumber}
 use mathlib.Core.Path.{sym, _∙_}
 use Prim.Native.Nat.{_-_}
 use native.Mathlib.Omega.{arith}
 use Rattle.parcels.specs.CardNumber.{shapeNumber}
-use Rattle.parcels.proofs.Bounds.{header-means}
-use Rattle.parcels.proofs.FirstNumber.{Zeros, zeros-none, zeros-more, zeros-hit, zeros-all}
+use Rattle.parcels.proofs.Tests.{header-means}
+use Rattle.outline.proofs.OrElse.{Zeros, zeros-none, zeros-more, zeros-hit, zeros-all}
 use borrow.Author.Needs.{needs}
 use Rattle.parcels.proofs.rules.first_shape.Statement.{statement}
 use Rattle.parcels.proofs.rules.first_shape.Tie as tie
-use Rattle.parcels.proofs.rules.first_shape.Reads as reads
-use Rattle.parcels.proofs.rules.first_shape.Lts as lts
-use Rattle.parcels.proofs.parcel_count.Reads as parcel-count-reads
-use Rattle.parcels.proofs.rules.shape_number.Reads as shape-number-reads
 
 abbrev Inv-loop : tie.InvT-loop
 Inv-loop card parcels k₀ k = Zeros (shapeNumber card) parcels k

@@ -6,17 +6,11 @@ use lib.Dec.{eqb}
 use borrow.Author.Count.{below-none, below-more}
 use Rattle.parcels.specs.Reading.{firstRing}
 use Rattle.parcels.specs.CardNumber.{wrongEntry}
-use Rattle.parcels.proofs.Bounds.{header-means}
-use Rattle.parcels.proofs.CardTests.{bad-entry, parcels-last}
+use Rattle.parcels.proofs.Tests.{header-means}
+use Rattle.parcels.proofs.Tests.{parcels-wrong, parcels-last}
 use borrow.Author.Needs.{needs}
 use Rattle.parcels.proofs.rules.wrong_parcels.Statement.{statement}
 use Rattle.parcels.proofs.rules.wrong_parcels.Tie as tie
-use Rattle.parcels.proofs.rules.wrong_parcels.Reads as reads
-use Rattle.parcels.proofs.rules.wrong_parcels.Lts as lts
-use Rattle.endian.proofs.u16_at.Reads as u16-at-reads
-use Rattle.parcels.proofs.first_ring.Reads as first-ring-reads
-use Rattle.parcels.proofs.parcel_count.Reads as parcel-count-reads
-use Rattle.parcels.proofs.rules.wrong_entry.Reads as wrong-entry-reads
 
 abbrev Inv-loop : tie.InvT-loop
 Inv-loop card parcels k₀ k = (k ≤ parcels) × ((j : ℕ) → j < k → wrongEntry card j ≡ false)
@@ -36,7 +30,7 @@ wrong-entry-requires c κs = search needs
 returns : tie.Need-returns Inv-loop μ-loop
 returns c =
     let p = c .before .before .before in
-    bad-entry _ (p .loop .k) (omega (arith, p .before .parcel-count .ensures)) (sym (c .before .wrong-entry .ensures) ∙ c .if1 .taken)
+    parcels-wrong _ (p .loop .k) (omega (arith, p .before .parcel-count .ensures)) (sym (c .before .wrong-entry .ensures) ∙ c .if1 .taken)
 
 add-k : tie.Need-add-k Inv-loop μ-loop
 add-k c = search needs
@@ -63,8 +57,8 @@ returns-2 c =
     let p = f .before .before in
     let s = p .before .before .before in
     let n = p .before .parcel-count .ensures in
-    parcels-last (s .args .card .now) (λ k l. p .loop .inv .1 k (omega (arith, n)))
-    (ap₂ (λ (x y : ℕ). not (eqb x y)) (f .first-ring .ensures ∙ ap (firstRing (s .args .card .now)) n) (c .u16-at .ensures))
+    ap₂ (λ (x y : ℕ). not (eqb x y)) (f .first-ring .ensures ∙ ap (firstRing (s .args .card .now)) n) (c .u16-at .ensures)
+    ∙ parcels-last (s .args .card .now) (λ k l. p .loop .inv .1 k (omega (arith, n)))
 
 pub wrong-parcels-spec : {M : Type 1} → statement M
 wrong-parcels-spec =

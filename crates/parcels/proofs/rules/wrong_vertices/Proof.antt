@@ -5,15 +5,10 @@ use native.Mathlib.Omega.{arith}
 use lib.Dec.{eqb}
 use Rattle.parcels.specs.Reading.{firstVertex}
 use Rattle.parcels.specs.CardNumber.{wrongVertices}
-use Rattle.parcels.proofs.Bounds.{header-means}
+use Rattle.parcels.proofs.Tests.{header-means}
 use borrow.Author.Needs.{needs}
 use Rattle.parcels.proofs.rules.wrong_vertices.Statement.{statement}
 use Rattle.parcels.proofs.rules.wrong_vertices.Tie as tie
-use Rattle.parcels.proofs.rules.wrong_vertices.Reads as reads
-use Rattle.parcels.proofs.rules.wrong_vertices.Lts as lts
-use Rattle.endian.proofs.u16_at.Reads as u16-at-reads
-use Rattle.parcels.proofs.first_vertex.Reads as first-vertex-reads
-use Rattle.parcels.proofs.parcel_count.Reads as parcel-count-reads
 
 parcel-count-requires : tie.Need-parcel-count-requires
 parcel-count-requires c κs = omega (arith, header-means (c .before .args .card .now) (c .before .pre .header) .total)
