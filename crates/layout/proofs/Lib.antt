@@ -1,0 +1,13 @@
+pub mod Stores
+pub mod Blocks
+pub mod Cross
+pub mod RightLists
+pub mod Slots
+pub mod Undamaged
+pub mod SlotTests
+pub mod Refusing
+pub mod Written
+pub mod Standing
+pub mod Blank
+pub mod SlotCells
+pub mod Steps

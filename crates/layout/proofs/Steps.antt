@@ -1,0 +1,98 @@
+-- The steps that write a parcel, and what they come to.
+--   ends-few         the ring ends that are written are few
+--   whole-written    once the room and the record are written, the slots may be read
+--   written          once the row and the column are written too, it is the sheet with that parcel in its slot
+use mathlib.Core.Path.{_≡_, refl, sym, ap, ap₂, _∙_, subst₂}
+use mathlib.Core.Bool.{Bool, true, false, _&&_, _||_}
+use mathlib.Core.List.{List, []}
+use Prim.Native.Nat.{ℕ, _+_, _*_, _/_, _%_, _<_, _≤_}
+use native.Mathlib.Omega.{arith}
+use lib.Dec.{eqb}
+use lib.IntN.{ℤ, pos}
+use lib.ListN.{length, getD}
+use lib.Seq.{ext-getD}
+use borrow.Author.Tests.{eqb-true}
+use Rattle.plane.specs.Choice.{pick}
+use Rattle.plane.specs.Folds.{turns}
+use Rattle.plane.specs.Lists.{stores}
+use Rattle.plane.proofs.Logic.{and-means}
+use Rattle.plane.proofs.Lists.{tab-same}
+use Rattle.outline.specs.Region.{Region, Parcel, nothing, outline, mostRings}
+use Rattle.layout.specs.Sheet.{Sheet, sheetOf, slots, room, recordLength, coordinatesLength, recordsLength, relationsLength}
+use Rattle.layout.specs.Standing.{endList, coordinateList, instead}
+use Rattle.layout.specs.Layout.{recordNumber, cellOf}
+use Rattle.layout.specs.Slots.{inSlot, parcelAt}
+use Rattle.layout.specs.Changes.{withParcel}
+use Rattle.layout.specs.Steps.{Whole, Ready, parcelOf, cellFor, crossed}
+use Rattle.layout.proofs.Blocks.{stores-block}
+use Rattle.layout.proofs.Cross.{cross-tab}
+use Rattle.layout.proofs.Slots.{few-rings}
+use Rattle.layout.proofs.Undamaged.{undamaged-whole}
+use Rattle.layout.proofs.Written.{with-lists, with-undamaged, parcel-standing}
+
+-- ---- two lent lists as a parcel
+empty-list : {A : Type 0} (a : A) (l : List A) → length l ≡ 0 → [] ≡ l
+empty-list a l e = ext-getD a [] l (sym e) (λ k h. absurd (omega arith))
+
+module _ (R : Region) where
+  abbrev none : Bool
+  none = eqb (length (R .ends)) 0 && eqb (length (R .coordinates)) 0
+
+  ends-of : endList (parcelOf R) ≡ R .ends
+  ends-of = go none refl
+    where
+      go : (b : Bool) → none ≡ b → endList (pick b nothing (outline R)) ≡ R .ends
+      go true e = empty-list 0 (R .ends) (eqb-true _ _ (and-means (eqb (length (R .ends)) 0) _ .0 e .0))
+      go false e = refl
+
+  coordinates-of : coordinateList (parcelOf R) ≡ R .coordinates
+  coordinates-of = go none refl
+    where
+      go : (b : Bool) → none ≡ b → coordinateList (pick b nothing (outline R)) ≡ R .coordinates
+      go true e = empty-list (pos 0) (R .coordinates) (eqb-true _ _ (and-means (eqb (length (R .ends)) 0) _ .0 e .1))
+      go false e = refl
+
+module _ (s : Sheet) (i : ℕ) (R : Region) (ready : Ready s i (parcelOf R)) where
+  pub ends-few : length (R .ends) ≤ mostRings
+  ends-few = rw (ends-of R) at (few-rings (parcelOf R) (ready .keeps))
+
+  after : Sheet
+  after = withParcel s i (parcelOf R)
+
+  module _ {xs : List ℤ} (room-stored : xs ≡ stores (λ k. room * i + k) (λ k. getD (R .coordinates) k (pos 0)) room (s .coordinates))
+      {records : List ℕ} (record-stored : records ≡ stores (λ k. recordLength * i + k) (recordNumber (R .ends)) recordLength (s .records)) where
+    numbers-written : xs ≡ after .coordinates
+    unfolding withParcel after
+    numbers-written =
+        rw (coordinates-of R)
+        (room-stored ∙ stores-block room (omega arith) (pos 0) slots i (λ k. getD (R .coordinates) k (pos 0)) (s .coordinates) (ready .change .lists .coordinate-list) (ready .change .slot-in))
+
+    entries-written : records ≡ after .records
+    unfolding withParcel after
+    entries-written =
+        rw (ends-of R)
+        (record-stored ∙ stores-block recordLength (omega arith) 0 slots i (recordNumber (R .ends)) (s .records) (ready .change .lists .record-list) (ready .change .slot-in))
+
+    pub whole-written : Whole xs records
+    unfolding after
+    whole-written =
+        subst₂ Whole (sym numbers-written) (sym entries-written)
+        (undamaged-whole (withParcel s i (parcelOf R)) (with-lists s i (parcelOf R)) (with-undamaged s i (parcelOf R) ready))
+
+    -- what the row and the column are written from
+    parcel-there : (k : ℕ) → k < slots → inSlot xs records k ≡ instead (parcelAt s) i (parcelOf R) k
+    unfolding after
+    parcel-there k l = ap₂ (λ (a : List ℤ) (b : List ℕ). inSlot a b k) numbers-written entries-written ∙ parcel-standing s i (parcelOf R) ready k l
+
+    cells-written : {relations : List ℕ} → relations ≡ turns (crossed (cellFor xs records) i) slots (s .relations) → relations ≡ after .relations
+    unfolding withParcel after
+    cells-written e =
+        e ∙ cross-tab (cellFor xs records) i (ready .change .slot-in) (s .relations) (ready .change .lists .relation-list)
+        ∙ tab-same _ _ relationsLength
+        (λ k l. ap₂ (λ (x y : Parcel). pick (eqb (k / slots) i || eqb (k % slots) i) (cellOf x y (eqb (k / slots) (k % slots))) (getD (s .relations) k 0))
+        (parcel-there (k / slots) (omega arith)) (parcel-there (k % slots) (omega arith)))
+
+    pub written : {relations : List ℕ} → relations ≡ turns (crossed (cellFor xs records) i) slots (s .relations)
+        → sheetOf xs records relations ≡ withParcel s i (parcelOf R)
+    unfolding after
+    written e = λ j. sheetOf (numbers-written j) (entries-written j) (cells-written e j)
