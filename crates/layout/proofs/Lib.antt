@@ -11,3 +11,4 @@ pub mod Standing
 pub mod Blank
 pub mod SlotCells
 pub mod Steps
+pub mod Rows

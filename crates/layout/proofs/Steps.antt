@@ -1,4 +1,5 @@
 -- The steps that write a parcel, and what they come to.
+--   outline-parcel   the two lists of a region that keeps rules 1 to 4 are an outline
 --   ends-few         the ring ends that are written are few
 --   whole-written    once the room and the record are written, the slots may be read
 --   written          once the row and the column are written too, it is the sheet with that parcel in its slot
@@ -11,13 +12,14 @@ use lib.Dec.{eqb}
 use lib.IntN.{ℤ, pos}
 use lib.ListN.{length, getD}
 use lib.Seq.{ext-getD}
-use borrow.Author.Tests.{eqb-true}
+use borrow.Author.Tests.{eqb-true, ne-eqb}
 use Rattle.plane.specs.Choice.{pick}
 use Rattle.plane.specs.Folds.{turns}
 use Rattle.plane.specs.Lists.{stores}
 use Rattle.plane.proofs.Logic.{and-means}
 use Rattle.plane.proofs.Lists.{tab-same}
 use Rattle.outline.specs.Region.{Region, Parcel, nothing, outline, mostRings}
+use Rattle.outline.specs.Rules.{Keeps}
 use Rattle.layout.specs.Sheet.{Sheet, sheetOf, slots, room, recordLength, coordinatesLength, recordsLength, relationsLength}
 use Rattle.layout.specs.Standing.{endList, coordinateList, instead}
 use Rattle.layout.specs.Layout.{recordNumber, cellOf}
@@ -26,7 +28,7 @@ use Rattle.layout.specs.Changes.{withParcel}
 use Rattle.layout.specs.Steps.{Whole, Ready, parcelOf, cellFor, crossed}
 use Rattle.layout.proofs.Blocks.{stores-block}
 use Rattle.layout.proofs.Cross.{cross-tab}
-use Rattle.layout.proofs.Slots.{few-rings}
+use Rattle.layout.proofs.Slots.{keeps-sized, few-rings}
 use Rattle.layout.proofs.Undamaged.{undamaged-whole}
 use Rattle.layout.proofs.Written.{with-lists, with-undamaged, parcel-standing}
 
@@ -51,6 +53,12 @@ module _ (R : Region) where
       go : (b : Bool) → none ≡ b → coordinateList (pick b nothing (outline R)) ≡ R .coordinates
       go true e = empty-list (pos 0) (R .coordinates) (eqb-true _ _ (and-means (eqb (length (R .ends)) 0) _ .0 e .1))
       go false e = refl
+
+  pub outline-parcel : Keeps 4 R → parcelOf R ≡ outline R
+  outline-parcel kept =
+      let size = keeps-sized R kept in
+      let e : eqb (length (R .ends)) 0 ≡ false = ne-eqb (length (R .ends)) 0 (λ q. absurd (omega (arith, size .some, q))) in
+      simp e
 
 module _ (s : Sheet) (i : ℕ) (R : Region) (ready : Ready s i (parcelOf R)) where
   pub ends-few : length (R .ends) ≤ mostRings

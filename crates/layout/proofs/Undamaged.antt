@@ -20,7 +20,7 @@ use Rattle.plane.proofs.Folds.{any-means, any-none}
 use Rattle.outline.specs.Region.{Region, Parcel, nothing, outline, mostRings, lastEnd}
 use Rattle.outline.specs.Rules.{Breaks, Keeps}
 use Rattle.outline.specs.Check.{breaksAt}
-use Rattle.outline.proofs.Keeps.{keeps-none, keeps-more, keeps-fewer, broken-ring}
+use Rattle.outline.proofs.Keeps.{keeps-more, keeps-fewer, counted-keeps, broken-ring}
 use Rattle.outline.proofs.Tests.{breaks-means, keeps-passes}
 use Rattle.layout.specs.Sheet.{Sheet, slots, RightLists}
 use Rattle.layout.specs.Standing.{ParcelKeeps, StandTogether}
@@ -44,10 +44,6 @@ passed R n l kept h =
 passes : (R : Region) (n : ℕ) → Keeps (suc n) R → breaksRule R (suc n) ≡ false
 passes R n kept = any-none (breaksAt R (suc n)) (length (R .ends)) (λ r l. keeps-passes R r n kept)
 
--- a ring count from 1 to 8 is rule 1
-pub counted-keeps : (R : Region) → length (R .ends) ≢ 0 → length (R .ends) ≤ mostRings → Keeps 1 R
-counted-keeps R some few = keeps-more keeps-none (λ r b. ⊎-elim some (λ e. omega (arith, e, few)) (b .1))
-
 -- ---- one slot
 module _ (xs : List ℤ) (records : List ℕ) (i : ℕ) (right : SlotLists xs records) (il : i < slots) where
   abbrev R : Region
@@ -60,7 +56,7 @@ module _ (xs : List ℤ) (records : List ℕ) (i : ℕ) (right : SlotLists xs re
     one-kept : emptyIn records i ≡ false → Keeps 1 R
     one-kept e =
         let n = rings-length records i counted in
-        counted-keeps R (λ z. eqb-false (ringsIn records i) 0 e (sym n ∙ z)) (omega arith)
+        counted-keeps (omega (arith, n, eqb-false (ringsIn records i) 0 e)) (omega arith)
 
   four-kept : (t : Bool) → emptyIn records i ≡ t → ringsIn records i ≤ mostRings
       → not t && (breaksRule R 2 || (breaksRule R 3 || breaksRule R 4)) ≡ false → ParcelKeeps 4 (inSlot xs records i)

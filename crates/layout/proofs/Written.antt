@@ -1,6 +1,6 @@
 -- The sheet s with the parcel p in slot i, where p may come there.
 --   with-lists         its lists have their lengths
---   with-touches       it differs from s only in the room, the record, the row and the column of slot i
+--   with-touches       it differs from s only in the room, the record, the row and the column of slot i;  touches-none  as s itself does
 --   parcel-standing    p stands in slot i, and in every other slot what stood there
 --   with-undamaged     it is undamaged
 --   row-renewed, column-renewed    the cells of slot i are those of what then stands, also on a sheet that others have written
@@ -45,6 +45,10 @@ module _ {A : Type 0} (d : A) (t : ℕ → Bool) (f : ℕ → A) (l : List A) (n
         | yes h ↦ getD-tab changed d n k h ∙ simp e
         | no h ↦ List·getD-eq-default (tab changed n) d (omega (arith, length-tab changed n)) ∙ sym (List·getD-eq-default l d (omega arith))
       ]
+
+pub touches-none : (s : Sheet) (i : ℕ) → TouchesOnly i s s
+touches-none s i =
+    record { coordinate-list = refl; record-list = refl; relation-list = refl; numbers = λ k h. refl; entries = λ k h. refl; cells = λ k g h. refl }
 
 module _ (s : Sheet) (i : ℕ) (p : Parcel) where
   pub with-lists : RightLists (withParcel s i p)

@@ -40,8 +40,8 @@ pub fn row_in<'a>(relations: &'a [u16], slot: usize) -> &'a [u16]
     &relations[from..to]
 }
 
-// The tiles that the first region has of the second's box.
-fn tiles_of(first: &[i32], first_ends: &[u16], second: &[i32], second_ends: &[u16]) -> u16
+// The relation of the first region to the second: the tiles that it has of the second's box.
+fn relation_of(first: &[i32], first_ends: &[u16], second: &[i32], second_ends: &[u16]) -> u16
     requires { ⌜ Keeps 4 (regionOf (now first) (now «first_ends»)) × Keeps 4 (regionOf (now second) (now «second_ends»)) ⌝ }
     ensures { λ r. ⌜ r ≡ relationOf (regionBox (regionOf (now (second .entry)) (now («second_ends» .entry)))) (regionOf (now (first .entry)) (now («first_ends» .entry))) ⌝ }
 {
@@ -68,7 +68,7 @@ fn cell_for(xs: &[i32], records: &[u16], primary: usize, reference: usize) -> u1
     let first_ends = ends_at(records, primary);
     let second = outline_at(xs, records, reference);
     let second_ends = ends_at(records, reference);
-    tiles_of(first, first_ends, second, second_ends)
+    relation_of(first, first_ends, second, second_ends)
 }
 
 // The cells of two slots, each way round.

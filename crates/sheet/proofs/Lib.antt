@@ -1,8 +1,4 @@
-pub mod Readings
-pub mod Written
-pub mod Standing
-pub mod Blank
 pub mod Numbers
-pub mod Steps
 pub mod Frame
+pub mod Readings
 pub mod Only

@@ -5,7 +5,7 @@
 use mathlib.Core.Path.{_≡_, sym, _∙_}
 use Prim.Native.Nat.{ℕ}
 use Rattle.sheet.specs.declared.Reading.{Reading}
-use Rattle.slots.specs.Layout.{sheetOf}
+use Rattle.layout.specs.Sheet.{sheetOf}
 use Rattle.sheet.proofs.put.Reads as put-reads
 use Rattle.sheet.proofs.remove.Reads as remove-reads
 use Rattle.sheet.proofs.clear.Reads as clear-reads
@@ -29,7 +29,7 @@ pub clear-only : (κs : _) (a : _) (r r' : ℕ) (s s' : _) → clear-reads.Post 
 clear-only κs a r r' s s' p q = same p q
 
 pub read-only : (κs : _) (a : _) (r r' : Reading) (s s' : _) → read-reads.Post κs a r s → read-reads.Post κs a r' s' → r ≡ r'
-read-only κs a r r' s s' p q = p ∙ sym q
+read-only κs a r r' s s' p q = p .0 ∙ sym (q .0)
 
 pub row-only : (κs : _) (a : _) (r r' : _) (s s' : _) → row-reads.Post κs a r s → row-reads.Post κs a r' s' → (r .now ≡ r' .now) × (r .ptr ≡ r' .ptr)
 row-only κs a r r' s s' p q = same p q

@@ -1,9 +1,12 @@
 -- Laws of the readings.
---   read-shows      a reading that is not refused has lists of the sheet's lengths, slots below 32, and neither slot empty
---   row-full, row-empty    the row has 32 cells where no number applies, and none where one does
+--   read-is         the number, by the tests that decide it
+--   read-means      a cell is read exactly where the two lists have their lengths, there are such slots, and neither is empty
+--   reading-number, reading-value    the number and the value of what reading a cell answers
+--   row-full, row-empty    the row has a cell for each slot where no number applies, and none where one does
 --   bits-ones       the set digits of n % 2 ^ w are the bits of n below w
 use mathlib.Core.Path.{_≡_, refl, sym, ap, _∙_}
-use mathlib.Core.Bool.{Bool, true, false, not, _||_}
+use mathlib.Core.Logic.{_↔_, inl, inr, ⊎-elim}
+use mathlib.Core.Bool.{Bool, true, false, _||_}
 use mathlib.Core.List.{List, []}
 use Prim.Native.Nat.{ℕ, zero, suc, _+_, _/_, _%_, _^_, _<_, _≤_}
 use native.Mathlib.Omega.{arith}
@@ -11,57 +14,95 @@ use native.Mathlib.Numerals.{one-add}
 use native.Mathlib.Nat.{mod-lt, add-comm, not-suc-le-zero, le-of-suc-le-suc}
 use lib.Count.{ones, ones-cat}
 use lib.Dec.{ltb, eqb, lit<}
-use lib.ListN.{length, length-take, length-drop}
+use lib.ListN.{length}
 use lib.Pow.{mod-pow-add, pow-pos}
-use borrow.Author.Tests.{eqb-true, eqb-false, ltb-false, eq-eqb, ne-eqb}
+use borrow.Author.Tests.{eqb-true, ltb-false, le-ltb, eq-eqb, ne-eqb}
 use Rattle.plane.specs.Choice.{pick}
 use Rattle.plane.specs.Folds.{sumTo}
 use Rattle.plane.specs.TileSet.{bit}
-use Rattle.slots.specs.Layout.{slots, records-length, relations-length}
-use Rattle.sheet.specs.Readings.{emptyAt, readNumber, rowOf}
+use Rattle.plane.proofs.Logic.{clash, is-false, or-means}
+use Rattle.outline.specs.Refusals.{numberIf, orElse, slot-number, slot-empty, sheet-lists}
+use Rattle.outline.proofs.OrElse.{or-else-none}
+use Rattle.layout.specs.Sheet.{slots, lastSlot, wrongTables}
+use Rattle.layout.specs.Slots.{emptyIn, cellIn, rowIn}
+use Rattle.layout.proofs.Refusing.{unless}
+use Rattle.layout.proofs.Rows.{row-length}
+use Rattle.sheet.specs.declared.Reading.the-variants.{Relation, Refused}
+use Rattle.sheet.specs.Readings.{readNumber, readingOf, readingNumber, readingValue, rowOf}
 
 -- ---- the number
 pub record Readable (records relations : List ℕ) (i j : ℕ) : Type 0 where
-  pub record-list : length records ≡ records-length
-  pub relation-list : length relations ≡ relations-length
+  pub tables : wrongTables records relations ≡ false
   pub primary : i < slots
   pub reference : j < slots
-  pub primary-stands : emptyAt records i ≡ false
-  pub reference-stands : emptyAt records j ≡ false
+  pub primary-there : emptyIn records i ≡ false
+  pub reference-there : emptyIn records j ≡ false
+
+neither : (a b : Bool) → (a || b ≡ false) ↔ ((a ≡ false) × (b ≡ false))
+neither a b = (
+  λ h. (is-false a (λ e. clash (a || b) (or-means a b .1 (inl e)) h), is-false b (λ e. clash (a || b) (or-means a b .1 (inr e)) h)),
+  λ h. is-false (a || b) (λ e. ⊎-elim (λ p. clash a p (h .0)) (λ p. clash b p (h .1)) (or-means a b .0 e)),
+)
+
+slot-in : (i : ℕ) → (ltb lastSlot i ≡ false) ↔ (i < slots)
+slot-in i = (λ h. let l : i ≤ lastSlot = ltb-false lastSlot i h in omega arith, λ h. le-ltb lastSlot i (omega arith))
 
 module _ (records relations : List ℕ) (i j : ℕ) where
-  pub read-shows : readNumber records relations i j ≡ 0 → Readable records relations i j
+  pub read-means : (readNumber records relations i j ≡ 0) ↔ Readable records relations i j
   unfolding readNumber
-  read-shows z =
-      go (eqb (length records) records-length) refl (eqb (length relations) relations-length) refl (ltb 31 i) refl (ltb 31 j) refl (emptyAt records i) refl (emptyAt records j) refl z
+  read-means = (
+    λ z. let p = first .0 z in
+        let q = second .0 (p .1) in
+        let low = neither (ltb lastSlot i) (ltb lastSlot j) .0 (unless _ slot-number (λ e. omega arith) .0 (q .0)) in
+        let there = neither (emptyIn records i) (emptyIn records j) .0 (unless _ slot-empty (λ e. omega arith) .0 (q .1)) in
+        record {
+          tables = unless _ sheet-lists (λ e. omega arith) .0 (p .0);
+          primary = slot-in i .0 (low .0);
+          reference = slot-in j .0 (low .1);
+          primary-there = there .0;
+          reference-there = there .1;
+        },
+    λ h. first .1 (
+      unless _ sheet-lists (λ e. omega arith) .1 (h .tables),
+      second .1 (
+        unless _ slot-number (λ e. omega arith) .1 (neither (ltb lastSlot i) (ltb lastSlot j) .1 (slot-in i .1 (h .primary), slot-in j .1 (h .reference))),
+        unless _ slot-empty (λ e. omega arith) .1 (neither (emptyIn records i) (emptyIn records j) .1 (h .primary-there, h .reference-there)),
+      ),
+    ),
+  )
     where
-      go : (a : Bool) → eqb (length records) records-length ≡ a → (b : Bool) → eqb (length relations) relations-length ≡ b → (d : Bool) → ltb 31 i ≡ d → (e : Bool) → ltb 31 j ≡ e
-          → (f : Bool) → emptyAt records i ≡ f → (g : Bool) → emptyAt records j ≡ g → pick {A = ℕ} (not a || not b) 11 (pick (d || e) 8 (pick (f || g) 9 0)) ≡ 0 → Readable records relations i j
-      go true ea true eb false ed false ee false ef false eg z =
-          let k : i ≤ 31 = ltb-false _ _ ed in
-          let l : j ≤ 31 = ltb-false _ _ ee in
-          record {
-            record-list = eqb-true _ _ ea;
-            relation-list = eqb-true _ _ eb;
-            primary = omega arith;
-            reference = omega arith;
-            primary-stands = ef;
-            reference-stands = eg;
-          }
-      go true ea true eb false ed false ee false ef true eg z = absurd (eqb-false 9 0 refl z)
-      go true ea true eb false ed false ee true ef g eg z = absurd (eqb-false 9 0 refl z)
-      go true ea true eb false ed true ee f ef g eg z = absurd (eqb-false 8 0 refl z)
-      go true ea true eb true ed e ee f ef g eg z = absurd (eqb-false 8 0 refl z)
-      go true ea false eb d ed e ee f ef g eg z = absurd (eqb-false 11 0 refl z)
-      go false ea b eb d ed e ee f ef g eg z = absurd (eqb-false 11 0 refl z)
+      second : (orElse (numberIf (ltb lastSlot i || ltb lastSlot j) slot-number) (numberIf (emptyIn records i || emptyIn records j) slot-empty) ≡ 0)
+          ↔ ((numberIf (ltb lastSlot i || ltb lastSlot j) slot-number ≡ 0) × (numberIf (emptyIn records i || emptyIn records j) slot-empty ≡ 0))
+      second = or-else-none _ _
+
+      first : (orElse (numberIf (wrongTables records relations) sheet-lists) (orElse (numberIf (ltb lastSlot i || ltb lastSlot j) slot-number) (numberIf (emptyIn records i || emptyIn records j) slot-empty)) ≡ 0)
+          ↔ ((numberIf (wrongTables records relations) sheet-lists ≡ 0) × (orElse (numberIf (ltb lastSlot i || ltb lastSlot j) slot-number) (numberIf (emptyIn records i || emptyIn records j) slot-empty) ≡ 0))
+      first = or-else-none _ _
+
+  pub read-is : (a b d e f : Bool) → wrongTables records relations ≡ a → ltb lastSlot i ≡ b → ltb lastSlot j ≡ d → emptyIn records i ≡ e → emptyIn records j ≡ f
+      → readNumber records relations i j ≡ orElse (numberIf a sheet-lists) (orElse (numberIf (b || d) slot-number) (numberIf (e || f) slot-empty))
+  unfolding readNumber
+  read-is a b d e f ea eb ed ee ef = rw (ea, eb, ed, ee, ef) refl
+
+  pub reading-number : readingNumber (readingOf records relations i j) ≡ readNumber records relations i j
+  unfolding readingOf
+  reading-number = go (eqb (readNumber records relations i j) 0) refl
+    where
+      go : (t : Bool) → eqb (readNumber records relations i j) 0 ≡ t → readingNumber (pick t (Relation (cellIn relations i j)) (Refused (readNumber records relations i j))) ≡ readNumber records relations i j
+      go true e = sym (eqb-true _ _ e)
+      go false e = refl
+
+  pub reading-value : readNumber records relations i j ≡ 0 → readingValue (readingOf records relations i j) ≡ cellIn relations i j
+  unfolding readingOf
+  reading-value z = simp (eq-eqb (readNumber records relations i j) 0 z)
 
 -- ---- the row
 module _ (records relations : List ℕ) (i : ℕ) where
   pub row-full : readNumber records relations i i ≡ 0 → length (rowOf records relations i) ≡ slots
   unfolding rowOf
   row-full z =
-      let h = read-shows records relations i i z in
-      simp (eq-eqb (readNumber records relations i i) 0 z, length-take, length-drop) (omega (arith, h .relation-list, h .primary))
+      let h = read-means records relations i i .0 z in
+      simp (eq-eqb (readNumber records relations i i) 0 z) (row-length records relations i (h .tables) (h .primary))
 
   pub row-empty : (readNumber records relations i i ≡ 0 → ⊥) → rowOf records relations i ≡ []
   unfolding rowOf

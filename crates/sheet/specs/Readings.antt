@@ -1,48 +1,46 @@
--- Document 01: "Reading a cell: 11, 8, 9 for either slot; 12 is not looked for. A row is handed out as that part of the lent relation table,
--- 32 cells long; the part is empty exactly where a number 11, 8 or 9 applies. How many tiles a relation has is also answered, 0 for 0; bits
--- above 8 are not counted." A reading is lent the records and the relations.
+-- Document 01, "The sheet": the readings. They are lent the records and the relations, and never ask whether the sheet is damaged. A cell is
+-- refused by 11, then 8, then 9, each for either slot; a row is that part of the lent table, and empty exactly where one of these numbers
+-- applies. How many tiles a relation has counts its nine low bits.
 --   readNumber records relations i j    the refusal of reading the cell of i and j, or 0
---   readingOf records relations i j     what reading it answers;  numberOf, relationOf  its number, and the relation or 0
+--   readingOf records relations i j     what reading it answers
+--   readingNumber, readingValue         the document's number and value of an answer: number 0 beside a relation, value 0 beside a refusal
 --   rowOf records relations i           the cells of row i, or none;  rowStart  the place in the table at which the part begins
---   tilesOf v                           how many tiles the relation v has
-use mathlib.Core.Bool.{Bool, not, _||_}
+--   tileCount v                         how many tiles the relation v has
+use mathlib.Core.Bool.{_||_}
 use mathlib.Core.List.{List, []}
-use Prim.Native.Nat.{ℕ, _+_, _*_}
+use Prim.Native.Nat.{ℕ}
 use lib.Dec.{ltb, eqb}
-use lib.ListN.{length, getD, take, drop}
 use Rattle.plane.specs.Choice.{pick}
 use Rattle.plane.specs.Folds.{sumTo}
 use Rattle.plane.specs.TileSet.{bit}
-use Rattle.outline.specs.Refusals.{number, slot-number, slot-empty, sheet-lists}
+use Rattle.outline.specs.Refusals.{numberIf, orElse, slot-number, slot-empty, sheet-lists}
+use Rattle.layout.specs.Sheet.{lastSlot, wrongTables}
+use Rattle.layout.specs.Slots.{emptyIn, cellIn, rowIn, rowPlace}
 use Rattle.sheet.specs.declared.Reading.{Reading}
 use Rattle.sheet.specs.declared.Reading.the-variants.{Relation, Refused}
-use Rattle.slots.specs.Layout.{slots, record-length, records-length, relations-length}
-
-abbrev pub emptyAt : List ℕ → ℕ → Bool
-emptyAt records i = eqb (getD records (record-length * i) 0) 0
 
 unfoldable pub readNumber : List ℕ → List ℕ → (i j : ℕ) → ℕ
 readNumber records relations i j =
-    pick (not (eqb (length records) records-length) || not (eqb (length relations) relations-length)) (number sheet-lists)
-    (pick (ltb 31 i || ltb 31 j) (number slot-number) (pick (emptyAt records i || emptyAt records j) (number slot-empty) 0))
+    orElse (numberIf (wrongTables records relations) sheet-lists)
+    (orElse (numberIf (ltb lastSlot i || ltb lastSlot j) slot-number) (numberIf (emptyIn records i || emptyIn records j) slot-empty))
 
 unfoldable pub readingOf : List ℕ → List ℕ → (i j : ℕ) → Reading
 readingOf records relations i j =
-    pick (eqb (readNumber records relations i j) 0) (Relation (getD relations (slots * i + j) 0)) (Refused (readNumber records relations i j))
+    pick (eqb (readNumber records relations i j) 0) (Relation (cellIn relations i j)) (Refused (readNumber records relations i j))
 
-abbrev pub numberOf : Reading → ℕ
-numberOf (Relation v) = 0
-numberOf (Refused n) = n
+abbrev pub readingNumber : Reading → ℕ
+readingNumber (Relation v) = 0
+readingNumber (Refused n) = n
 
-abbrev pub relationOf : Reading → ℕ
-relationOf (Relation v) = v
-relationOf (Refused n) = 0
+abbrev pub readingValue : Reading → ℕ
+readingValue (Relation v) = v
+readingValue (Refused n) = 0
 
 unfoldable pub rowOf : List ℕ → List ℕ → ℕ → List ℕ
-rowOf records relations i = pick (eqb (readNumber records relations i i) 0) (take slots (drop (slots * i) relations)) []
+rowOf records relations i = pick (eqb (readNumber records relations i i) 0) (rowIn relations i) []
 
 unfoldable pub rowStart : List ℕ → List ℕ → ℕ → ℕ
-rowStart records relations i = pick (eqb (readNumber records relations i i) 0) (slots * i) 0
+rowStart records relations i = pick (eqb (readNumber records relations i i) 0) (rowPlace i) 0
 
-unfoldable pub tilesOf : ℕ → ℕ
-tilesOf v = sumTo (bit v) 9
+unfoldable pub tileCount : ℕ → ℕ
+tileCount v = sumTo (bit v) 9

@@ -53,8 +53,8 @@ module _ (c : tie.After-ends-at2) where
       regionOf (c .before .outline-at2 .result .now) (c .ends-at2 .result .now) ≡ regionIn (a .xs .now) (a .records .now) (a .reference)
   second-read = ap₂ regionOf (c .before .outline-at2 .ensures) (c .ends-at2 .ensures)
 
-tiles-of-requires : tie.Need-tiles-of-requires
-tiles-of-requires c κs =
+relation-of-requires : tie.Need-relation-of-requires
+relation-of-requires c κs =
     let e = c .before .before .before .before .before in
     let p = e .before .before .before .before .before .pre in (
       subst (Keeps 4) (sym (first-read c)) (there-keeps _ _ (p .0) _ (p .1) (first-there e)),
@@ -65,7 +65,7 @@ returns-4 : tie.Need-returns-4
 returns-4 c =
     let b = c .before in
     let d = b .before .before .before .before in
-    c .tiles-of .ensures ∙ ap₂ (λ (Q R : Region). relationOf (regionBox Q) R) (second-read b) (first-read b)
+    c .relation-of .ensures ∙ ap₂ (λ (Q R : Region). relationOf (regionBox Q) R) (second-read b) (first-read b)
     ∙ between _ _ _ _ (first-there (d .before)) (second-there (d .before)) (d .if3 .left)
 
 pub cell-for-spec : {M : Type 1} → statement M
@@ -81,5 +81,5 @@ cell-for-spec =
     ends-at-requires
     outline-at-requires-2
     ends-at-requires-2
-    tiles-of-requires
+    relation-of-requires
     returns-4)

@@ -6,8 +6,8 @@ use Rattle.outline.specs.Region.{regionOf}
 use Rattle.relation.specs.Relation.{relationOf}
 use Rattle.relation.proofs.Regions.{region-box-in-places, region-upright}
 use borrow.Author.Needs.{needs}
-use Rattle.layout.proofs.cells.tiles_of.Statement.{statement}
-use Rattle.layout.proofs.cells.tiles_of.Tie as tie
+use Rattle.layout.proofs.cells.relation_of.Statement.{statement}
+use Rattle.layout.proofs.cells.relation_of.Tie as tie
 
 region-box-requires : tie.Need-region-box-requires
 region-box-requires c κs = search needs
@@ -23,5 +23,5 @@ returns c =
     let a = c .before .before .before .before .args in
     ap (λ (p : Part). p .set) (c .region-seen .ensures) ∙ ap (λ (b : Box). relationOf b (regionOf (a .first .now) (a .first-ends .now))) (c .before .region-box .ensures)
 
-pub tiles-of-spec : {M : Type 1} → statement M
-tiles-of-spec = tie.close (tie.spec region-box-requires region-seen-requires returns)
+pub relation-of-spec : {M : Type 1} → statement M
+relation-of-spec = tie.close (tie.spec region-box-requires region-seen-requires returns)
