@@ -24,7 +24,7 @@ use Rattle.plane.proofs.Logic.{iff-and, iff-or, iff-not}
 use Rattle.plane.proofs.Place.{place-lt, place-eq}
 use Rattle.plane.proofs.Points.{before-line, past-line}
 use Rattle.edge.specs.Clauses.{Apart, AlongUpright, AlongLevel, After, Before, BelongsTo, inside, going-north, going-south, going-east, going-west, HasTile}
-use Rattle.edge.specs.TileTest.{doubledBox, movedEdge}
+use Rattle.edge.proofs.MovedEdge.{doubledBox, movedEdge}
 use Rattle.edge.proofs.Weights.{fraction, rest, rest-pos, rest-sum, rest-of, InCol, Meets, EqualEnds, On, Past, Short}
 use Rattle.edge.proofs.MovedAxis.{Strip, columnStrip, rowStrip, MovedAt, moved-across, moved-off, moved-past, moved-short}
 

@@ -13,8 +13,10 @@ use Rattle.plane.specs.Place.{placeOf}
 use Rattle.plane.specs.Folds.{anyTo, sumTo, leastTo, greatestTo}
 use Rattle.plane.specs.Lists.{tabFrom}
 use Rattle.plane.specs.TileSet.{setOf, bit}
-use Rattle.edge.specs.TileTest.{clip, strip, hits, moved, doubledBox, movedEdge, has}
-use Rattle.edge.specs.PieceCount.{cuts, together, fresh, pieces}
+use Rattle.edge.specs.TileList.{countIn, standsIn}
+use Rattle.edge.specs.Moments.{sooner, riseOf, fallOf, axisOf}
+use Rattle.edge.specs.Walk.{linesAtStart, linesPast, rangeAfter, tileOf, enterOf, stepOf, stateOf, listOf}
+use Rattle.edge.specs.Drawn.{has, pieces}
 use Rattle.ring.specs.Edges.{nextOf, ringEdge}
 use Rattle.ring.specs.RingBox.{stretchBox, covers}
 use Rattle.ring.specs.Centre.{eastward, crossesRay, encloses}
@@ -25,15 +27,15 @@ use Rattle.matrix.specs.Matrix.{cellValue, matrixOf, flatOf}
 use Rattle.outlines.specs.Rows.{square, corner, apart, triangle, crossed, large, ring}
 
 pub border-once : bit (relationOf (regionBox square) ring) 4 ≡ 0
-unfolding placeOf anyTo sumTo leastTo greatestTo setOf clip strip hits moved doubledBox movedEdge has nextOf ringEdge stretchBox covers eastward crossesRay encloses edgesHave ringHas regionBox regionHas relationOf
+unfolding placeOf anyTo sumTo leastTo greatestTo setOf sooner riseOf fallOf axisOf linesAtStart linesPast rangeAfter tileOf enterOf stepOf stateOf listOf standsIn has nextOf ringEdge stretchBox covers eastward crossesRay encloses edgesHave ringHas regionBox regionHas relationOf
 border-once = refl
 
 pub corner-once : regionPieces (regionBox crossed) triangle ≡ 6
-unfolding placeOf sumTo leastTo greatestTo cuts together fresh pieces nextOf ringEdge stretchBox ringPieces regionBox regionPieces
+unfolding placeOf sumTo leastTo greatestTo sooner riseOf fallOf axisOf linesAtStart linesPast rangeAfter tileOf enterOf stepOf stateOf listOf countIn pieces nextOf ringEdge stretchBox ringPieces regionBox regionPieces
 corner-once = refl
 
 pub centre-looked-at : (edgesHave (regionBox square) (large .coordinates) 0 4 4 ≡ false) × (bit (relationOf (regionBox square) large) 4 ≡ 1)
-unfolding placeOf anyTo sumTo leastTo greatestTo setOf clip strip hits moved doubledBox movedEdge has nextOf ringEdge stretchBox covers eastward crossesRay encloses edgesHave ringHas regionBox regionHas relationOf
+unfolding placeOf anyTo sumTo leastTo greatestTo setOf sooner riseOf fallOf axisOf linesAtStart linesPast rangeAfter tileOf enterOf stepOf stateOf listOf standsIn has nextOf ringEdge stretchBox covers eastward crossesRay encloses edgesHave ringHas regionBox regionHas relationOf
 centre-looked-at = (refl, refl)
 
 -- SW is bit 6 and NE bit 2, so 64 and 4

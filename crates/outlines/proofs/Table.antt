@@ -7,8 +7,10 @@ use Rattle.plane.specs.Place.{placeOf, inRange}
 use Rattle.plane.specs.Folds.{anyTo, sumTo, firstOf, leastTo, greatestTo}
 use Rattle.plane.specs.Lists.{tabFrom}
 use Rattle.plane.specs.TileSet.{setOf}
-use Rattle.edge.specs.TileTest.{clip, strip, hits, moved, doubledBox, movedEdge, has}
-use Rattle.edge.specs.PieceCount.{cuts, together, fresh, pieces}
+use Rattle.edge.specs.TileList.{countIn, standsIn}
+use Rattle.edge.specs.Moments.{sooner, riseOf, fallOf, axisOf}
+use Rattle.edge.specs.Walk.{linesAtStart, linesPast, rangeAfter, tileOf, enterOf, stepOf, stateOf, listOf}
+use Rattle.edge.specs.Drawn.{has, pieces}
 use Rattle.meet.specs.MeetTest.{straddles, overlap, ends-apart, shares, one-side, folds}
 use Rattle.ring.specs.Edges.{nextOf, ringEdge}
 use Rattle.ring.specs.RingBox.{stretchBox, covers}
@@ -30,7 +32,7 @@ abbrev pub answerTo : Row → Answer
 answerTo r = pairOf (r .first) (r .second)
 
 pub table : map answerTo rows ≡ map (λ r. r .answer) rows
-unfolding placeOf inRange anyTo sumTo firstOf leastTo greatestTo tabFrom setOf clip strip hits moved doubledBox movedEdge has cuts together fresh pieces straddles overlap ends-apart shares one-side folds nextOf ringEdge stretchBox covers equalEnds repeated tangledPair tangled clockwise eastward crossesRay encloses edgesHave ringHas ringPieces shortAt outsideIn breaksAt firstBreaking shapeOf checkOf regionBox regionHas relationOf regionPieces insert linesOf cellAt rangeOf holds cellValue matrixOf flatOf sideOf holdsFirst holdsSecond compassPlace directed directionsOf pairOf answerOf answerFor given
+unfolding placeOf inRange anyTo sumTo firstOf leastTo greatestTo tabFrom setOf sooner riseOf fallOf axisOf linesAtStart linesPast rangeAfter tileOf enterOf stepOf stateOf listOf standsIn countIn has pieces straddles overlap ends-apart shares one-side folds nextOf ringEdge stretchBox covers equalEnds repeated tangledPair tangled clockwise eastward crossesRay encloses edgesHave ringHas ringPieces shortAt outsideIn breaksAt firstBreaking shapeOf checkOf regionBox regionHas relationOf regionPieces insert linesOf cellAt rangeOf holds cellValue matrixOf flatOf sideOf holdsFirst holdsSecond compassPlace directed directionsOf pairOf answerOf answerFor given
 table = refl
 
 pub words : map (λ r. aroundOf (r .answer)) rows ≡ map (λ r. r .around) rows

@@ -20,7 +20,7 @@ use Rattle.plane.specs.Points.{Lines}
 use Rattle.plane.specs.TileSet.{setOf, bit}
 use Rattle.plane.proofs.Logic.{iff-join, both, eq-means, not-means, iff-not, iff-turn}
 use Rattle.plane.proofs.TileSet.{set-means, set-same}
-use Rattle.ring.specs.declared.Part.{Part}
+use Rattle.ring.specs.declared.Seen.{Seen}
 use Rattle.outline.specs.declared.Checked.{Checked}
 use Rattle.outline.specs.declared.Checked.the-variants.{Accepted, Refused}
 use Rattle.outline.specs.Region.{Region, lastEnd}
@@ -131,10 +131,10 @@ module _ (first second : Region) where
   unfolding pairOf answerOf answerFor given setOf directionsOf
   directions-set = one (checkOf first)
     where
-      there : Part
+      there : Seen
       there = regionSeen (regionBox second) first
 
-      back : Part
+      back : Seen
       back = regionSeen (regionBox first) second
 
       tiles : (s t : Bool) → (f : ℕ → Bool) × ((pick s (refusedWith 13 1 0) (pick t (refusedWith 13 2 0) (whole first second))) .directions ≡ setOf f 9)

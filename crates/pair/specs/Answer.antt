@@ -17,7 +17,7 @@ use lib.Dec.{eqb}
 use lib.ListN.{replicate}
 use Rattle.plane.specs.Choice.{pick}
 use Rattle.plane.specs.declared.Box.{Box}
-use Rattle.ring.specs.declared.Part.{Part}
+use Rattle.ring.specs.declared.Seen.{Seen}
 use Rattle.outline.specs.declared.Checked.{Checked}
 use Rattle.outline.specs.declared.Checked.the-variants.{Accepted, Refused}
 use Rattle.outline.specs.Refusals.{number, no-tile}
@@ -49,7 +49,7 @@ abbrev pub orRefused : Checked → ℕ → Answer → Answer
 orRefused Accepted g a = a
 orRefused (Refused n r) g a = refusedWith n g r
 
-unfoldable pub given : (a b : Box) (there back : Part) → Answer
+unfoldable pub given : (a b : Box) (there back : Seen) → Answer
 given a b there back =
     let m = matrixOf a b (there .set) (back .set) in
     record {
@@ -66,7 +66,7 @@ given a b there back =
       «second_pieces» = back .pieces;
     }
 
-unfoldable pub answerFor : (a b : Box) (there back : Part) → Answer
+unfoldable pub answerFor : (a b : Box) (there back : Seen) → Answer
 answerFor a b there back =
     pick (eqb (there .set) 0) (refusedWith (number no-tile) 1 0) (pick (eqb (back .set) 0) (refusedWith (number no-tile) 2 0) (given a b there back))
 

@@ -13,7 +13,7 @@ use outline::refusals::NO_TILE;
 use plane::Box;
 use relation::region_box;
 use relation::region_seen;
-use ring::Part;
+use ring::Seen;
 
 // The eight directions without O.
 const EIGHT: u16 = 495;
@@ -65,7 +65,7 @@ fn refusal(checked: Checked, region: u16) -> Answer
 }
 
 // The answer for two boxes and what each region shows of the other's.
-fn given(a: Box, b: Box, there: Part, back: Part) -> Answer
+fn given(a: Box, b: Box, there: Seen, back: Seen) -> Answer
     ensures { λ r. ⌜ r ≡ given a b there back ⌝ }
 {
     let g = grid_of(a, b);

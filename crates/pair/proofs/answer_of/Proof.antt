@@ -4,7 +4,7 @@ use borrow.Author.Needs.{needs}
 use borrow.Author.Tests.{eq-eqb, ne-eqb}
 use Rattle.plane.specs.declared.Box.{Box}
 use Rattle.plane.specs.Placed.{BoxInPlaces, Upright}
-use Rattle.ring.specs.declared.Part.{Part}
+use Rattle.ring.specs.declared.Seen.{Seen}
 use Rattle.outline.specs.Region.{Region, regionOf}
 use Rattle.outline.specs.Rules.{Keeps}
 use Rattle.relation.specs.Relation.{regionBox, regionSeen}
@@ -14,7 +14,7 @@ use Rattle.pair.proofs.answer_of.Statement.{statement}
 use Rattle.pair.proofs.answer_of.Tie as tie
 
 -- ---- the answer by its tests
-module _ (a b : Box) (there back : Part) where
+module _ (a b : Box) (there back : Seen) where
   first-none : there .set ≡ 0 → refusedWith 13 1 0 ≡ answerFor a b there back
   unfolding answerFor
   first-none z = simp (eq-eqb (there .set) 0 z)
@@ -47,10 +47,10 @@ module _ (c : tie.After-region-seen2) where
   abbrev b : Box
   b = c .before .before .region-box2 .result
 
-  abbrev there : Part
+  abbrev there : Seen
   there = c .before .region-seen .result
 
-  abbrev back : Part
+  abbrev back : Seen
   back = c .region-seen2 .result
 
   answered : answerFor a b there back ≡ answerOf (one begin) (two begin)

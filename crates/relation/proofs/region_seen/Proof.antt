@@ -7,45 +7,44 @@ use lib.ListN.{length}
 use borrow.Author.Needs.{needs}
 use Rattle.plane.specs.declared.Box.{Box}
 use Rattle.plane.specs.Folds.{sumTo}
-use Rattle.plane.specs.TileSet.{setOf}
-use Rattle.plane.proofs.Folds.{sum-step}
-use Rattle.ring.specs.declared.Part.{Part}
+use Rattle.plane.proofs.Folds.{sum-step, sum-none}
+use Rattle.plane.proofs.TileSet.{anySet, any-set-none, any-set-more}
+use Rattle.ring.specs.declared.Seen.{Seen}
 use Rattle.ring.specs.Stretch.{Stretch}
-use Rattle.ring.specs.RingTiles.{ringPieces}
-use Rattle.ring.specs.RingPart.{ringPart}
-use Rattle.ring.proofs.Steps.{sum-none}
+use Rattle.ring.specs.RingTiles.{ringHas, ringPieces}
+use Rattle.ring.specs.RingSeen.{ringSeen}
 use Rattle.outline.specs.Region.{Region, regionOf, mostVertices, startOf, sizeOf}
 use Rattle.outline.specs.Rules.{Keeps}
 use Rattle.outline.proofs.Ends.{start-le, size-least}
 use Rattle.outline.proofs.Keeps.{keeps-fewer, Sized, sized, in-range, ring-order, ring-stretch}
 use Rattle.relation.specs.Relation.{relationOf, regionHas, regionPieces, regionSeen}
-use Rattle.relation.proofs.Relation.{pieces-to, hasTo, tiles-none, tiles-more}
+use Rattle.relation.proofs.Relation.{pieces-to}
 use Rattle.relation.proofs.region_seen.Statement.{statement}
 use Rattle.relation.proofs.region_seen.Tie as tie
 
 -- ---- the first k rings, and ring k
 module _ (b : Box) (R : Region) where
   abbrev tiles : ℕ → ℕ
-  tiles k = setOf (hasTo b R k) 9
+  tiles k = anySet (λ r. ringHas b (R .coordinates) (startOf (R .ends) r) (sizeOf (R .ends) r)) k 9
 
   abbrev count : ℕ → ℕ
   count k = sumTo (λ r. ringPieces b (R .coordinates) (startOf (R .ends) r) (sizeOf (R .ends) r)) k
 
-  abbrev ring : ℕ → Part
-  ring k = ringPart b (R .coordinates) (startOf (R .ends) k) (sizeOf (R .ends) k)
+  abbrev ring : ℕ → Seen
+  ring k = ringSeen b (R .coordinates) (startOf (R .ends) k) (sizeOf (R .ends) k)
 
   count-small : Keeps 4 R → (k : ℕ) → k ≤ length (R .ends) → count k ≤ mostVertices * 5
   count-small kept k h =
       let s = sized (keeps-fewer (omega arith) kept) in
       omega (arith, pieces-to kept b k h .1, start-le (R .ends) (s .grown) k (length (R .ends)) h (omega arith), s .small)
 
-  tiles-next : (k set : ℕ) (p : Part) → set ≡ tiles k → p ≡ ring k → bitOr set (p .set) ≡ tiles (k + 1)
-  tiles-next k set p e f = rw (e, ap (λ (q : Part). q .set) f) (tiles-more b R k)
+  tiles-next : (k set : ℕ) (p : Seen) → set ≡ tiles k → p ≡ ring k → bitOr set (p .set) ≡ tiles (k + 1)
+  tiles-next k set p e f = rw (e, ap (λ (q : Seen). q .set) f) (any-set-more _ 9 k)
 
-  count-next : (k sum : ℕ) (p : Part) → sum ≡ count k → p ≡ ring k → sum + p .pieces ≡ count (k + 1)
-  count-next k sum p e f = rw (e, ap (λ (q : Part). q .pieces) f) (sum-step (λ r. ringPieces b (R .coordinates) (startOf (R .ends) r) (sizeOf (R .ends) r)) k)
+  count-next : (k sum : ℕ) (p : Seen) → sum ≡ count k → p ≡ ring k → sum + p .pieces ≡ count (k + 1)
+  count-next k sum p e f = rw (e, ap (λ (q : Seen). q .pieces) f) (sum-step (λ r. ringPieces b (R .coordinates) (startOf (R .ends) r) (sizeOf (R .ends) r)) k)
 
-  all-rings : (k set sum : ℕ) → k ≡ length (R .ends) → set ≡ tiles k → sum ≡ count k → _≡_ {A = Part} (record { set = set; pieces = sum }) (regionSeen b R)
+  all-rings : (k set sum : ℕ) → k ≡ length (R .ends) → set ≡ tiles k → sum ≡ count k → _≡_ {A = Seen} (record { set = set; pieces = sum }) (regionSeen b R)
   unfolding relationOf regionHas regionPieces
   all-rings k set sum l e f = λ i. record { set = (e ∙ ap tiles l) i; pieces = (f ∙ ap count l) i }
 
@@ -54,11 +53,11 @@ answered : (P : ℕ → ℕ → Type 0) {from n start size : ℕ} → from ≡ s
 answered P e f p = rw (e, f) p
 
 abbrev Inv-loop : tie.InvT-loop
-Inv-loop b outline ends t set₀ pieces₀ r₀ set sum r =
+Inv-loop b outline ends set₀ pieces₀ r₀ set sum r =
     (r ≤ length ends) × (set ≡ tiles b (regionOf outline ends) r) × (sum ≡ count b (regionOf outline ends) r)
 
 abbrev μ-loop : tie.MeasureT-loop
-μ-loop b outline ends t set₀ pieces₀ r₀ set sum r = length ends - r
+μ-loop b outline ends set₀ pieces₀ r₀ set sum r = length ends - r
 
 module _ (s : tie.Start Inv-loop μ-loop) where
   abbrev region : Region
@@ -70,11 +69,8 @@ module _ (s : tie.Start Inv-loop μ-loop) where
   ring-there : (r : ℕ) → r < length (region .ends) → Stretch (region .coordinates) (startOf (region .ends) r) (sizeOf (region .ends) r) × (0 < sizeOf (region .ends) r)
   ring-there r h = (ring-stretch sizes r h (in-range (s .pre .2)), omega (arith, size-least (region .ends) (sizes .grown) r h))
 
-class-table-requires : tie.Need-class-table-requires Inv-loop μ-loop
-class-table-requires c κs = search needs
-
 loop-holds : tie.Need-loop-holds Inv-loop μ-loop
-loop-holds c = let s = c .before .before in (omega arith, tiles-none (s .args .b) (region s), sum-none _)
+loop-holds c = (omega arith, any-set-none _ 9, sum-none _)
 
 start-of-requires : tie.Need-start-of-requires Inv-loop μ-loop
 start-of-requires c κs = omega (arith, c .before .loop-test .taken)
@@ -82,36 +78,36 @@ start-of-requires c κs = omega (arith, c .before .loop-test .taken)
 size-of-requires : tie.Need-size-of-requires Inv-loop μ-loop
 size-of-requires c κs =
     let h = c .before .before .loop-test .taken in
-    (h, ring-order (sizes (c .before .before .before .before .before .before)) (c .before .before .before .loop .r) h)
+    (h, ring-order (sizes (c .before .before .before .before .before)) (c .before .before .before .loop .r) h)
 
-ring-part-requires : tie.Need-ring-part-requires Inv-loop μ-loop
-ring-part-requires c κs =
-    let l = c .before .before .before .before in
-    let s = l .before .before .before in
+ring-seen-requires : tie.Need-ring-seen-requires Inv-loop μ-loop
+ring-seen-requires c κs =
+    let l = c .before .before .before in
+    let s = l .before .before in
     let there =
     answered (λ from n. Stretch (region s .coordinates) from n × (0 < n)) (c .before .start-of .ensures) (c .size-of .ensures)
     (ring-there s (l .loop .r) (c .before .before .before .loop-test .taken)) in
-    (s .pre .0, s .pre .1, there .0, there .1, l .before .class-table .ensures)
+    (s .pre .0, s .pre .1, there .0, there .1)
 
 -- one ring more
-module _ (c : tie.After-ring-part Inv-loop μ-loop) where
+module _ (c : tie.After-ring-seen Inv-loop μ-loop) where
   abbrev turn : tie.At-loop Inv-loop μ-loop
   turn = c .before .before .before .before .before
 
   abbrev begin : tie.Start Inv-loop μ-loop
-  begin = turn .before .before .before
+  begin = turn .before .before
 
-  ring-is : c .ring-part .result ≡ ring (begin .args .b) (region begin) (turn .loop .r)
+  ring-is : c .ring-seen .result ≡ ring (begin .args .b) (region begin) (turn .loop .r)
   ring-is =
-      c .ring-part .ensures
-      ∙ answered (λ from n. ringPart (begin .args .b) (region begin .coordinates) from n ≡ ring (begin .args .b) (region begin) (turn .loop .r))
+      c .ring-seen .ensures
+      ∙ answered (λ from n. ringSeen (begin .args .b) (region begin .coordinates) from n ≡ ring (begin .args .b) (region begin) (turn .loop .r))
       (c .before .before .start-of .ensures) (c .before .size-of .ensures) refl
 
-  tiles-then : bitOr (turn .loop .set) (c .ring-part .result .set) ≡ tiles (begin .args .b) (region begin) (turn .loop .r + 1)
-  tiles-then = tiles-next (begin .args .b) (region begin) (turn .loop .r) (turn .loop .set) (c .ring-part .result) (turn .loop .inv .1) ring-is
+  tiles-then : bitOr (turn .loop .set) (c .ring-seen .result .set) ≡ tiles (begin .args .b) (region begin) (turn .loop .r + 1)
+  tiles-then = tiles-next (begin .args .b) (region begin) (turn .loop .r) (turn .loop .set) (c .ring-seen .result) (turn .loop .inv .1) ring-is
 
-  count-then : turn .loop .pieces + c .ring-part .result .pieces ≡ count (begin .args .b) (region begin) (turn .loop .r + 1)
-  count-then = count-next (begin .args .b) (region begin) (turn .loop .r) (turn .loop .pieces) (c .ring-part .result) (turn .loop .inv .2) ring-is
+  count-then : turn .loop .pieces + c .ring-seen .result .pieces ≡ count (begin .args .b) (region begin) (turn .loop .r + 1)
+  count-then = count-next (begin .args .b) (region begin) (turn .loop .r) (turn .loop .pieces) (c .ring-seen .result) (turn .loop .inv .2) ring-is
 
 add-pieces : tie.Need-add-pieces Inv-loop μ-loop
 add-pieces c =
@@ -131,7 +127,7 @@ loop-again c = (omega (arith, c .before .before .before .before .before .before 
 returns : tie.Need-returns Inv-loop μ-loop
 returns c =
     let l = c .before .loop in
-    let s = c .before .before .before .before in
+    let s = c .before .before .before in
     all-rings (s .args .b) (region s) (l .r) (l .set) (l .pieces) (omega (arith, l .inv .0, c .loop-test .left)) (l .inv .1) (l .inv .2)
 
 pub region-seen-spec : {M : Type 1} → statement M
@@ -140,11 +136,10 @@ region-seen-spec =
     (tie.spec
     Inv-loop
     μ-loop
-    class-table-requires
     loop-holds
     start-of-requires
     size-of-requires
-    ring-part-requires
+    ring-seen-requires
     add-pieces
     add-r
     loop-less

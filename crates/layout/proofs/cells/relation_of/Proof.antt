@@ -1,7 +1,7 @@
 use mathlib.Core.Path.{sym, ap, _∙_, subst}
 use Rattle.plane.specs.Placed.{BoxInPlaces, Upright}
 use Rattle.plane.specs.declared.Box.{Box}
-use Rattle.ring.specs.declared.Part.{Part}
+use Rattle.ring.specs.declared.Seen.{Seen}
 use Rattle.outline.specs.Region.{regionOf}
 use Rattle.relation.specs.Relation.{relationOf}
 use Rattle.relation.proofs.Regions.{region-box-in-places, region-upright}
@@ -21,7 +21,7 @@ region-seen-requires c κs =
 returns : tie.Need-returns
 returns c =
     let a = c .before .before .before .before .args in
-    ap (λ (p : Part). p .set) (c .region-seen .ensures) ∙ ap (λ (b : Box). relationOf b (regionOf (a .first .now) (a .first-ends .now))) (c .before .region-box .ensures)
+    ap (λ (p : Seen). p .set) (c .region-seen .ensures) ∙ ap (λ (b : Box). relationOf b (regionOf (a .first .now) (a .first-ends .now))) (c .before .region-box .ensures)
 
 pub relation-of-spec : {M : Type 1} → statement M
 relation-of-spec = tie.close (tie.spec region-box-requires region-seen-requires returns)
