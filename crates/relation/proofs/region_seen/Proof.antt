@@ -73,12 +73,12 @@ loop-holds : tie.Need-loop-holds Inv-loop μ-loop
 loop-holds c = (omega arith, any-set-none _ 9, sum-none _)
 
 start-of-requires : tie.Need-start-of-requires Inv-loop μ-loop
-start-of-requires c κs = omega (arith, c .before .loop-test .taken)
+start-of-requires c κs = omega (arith, c .loop-test .taken)
 
 size-of-requires : tie.Need-size-of-requires Inv-loop μ-loop
 size-of-requires c κs =
-    let h = c .before .before .loop-test .taken in
-    (h, ring-order (sizes (c .before .before .before .before .before)) (c .before .before .before .loop .r) h)
+    let h = c .before .loop-test .taken in
+    (h, ring-order (sizes (c .before .before .before .before)) (c .before .before .loop .r) h)
 
 ring-seen-requires : tie.Need-ring-seen-requires Inv-loop μ-loop
 ring-seen-requires c κs =
@@ -86,13 +86,13 @@ ring-seen-requires c κs =
     let s = l .before .before in
     let there =
     answered (λ from n. Stretch (region s .coordinates) from n × (0 < n)) (c .before .start-of .ensures) (c .size-of .ensures)
-    (ring-there s (l .loop .r) (c .before .before .before .loop-test .taken)) in
+    (ring-there s (l .loop .r) (c .before .before .loop-test .taken)) in
     (s .pre .0, s .pre .1, there .0, there .1)
 
 -- one ring more
 module _ (c : tie.After-ring-seen Inv-loop μ-loop) where
   abbrev turn : tie.At-loop Inv-loop μ-loop
-  turn = c .before .before .before .before .before
+  turn = c .before .before .before .before
 
   abbrev begin : tie.Start Inv-loop μ-loop
   begin = turn .before .before
@@ -113,16 +113,16 @@ add-pieces : tie.Need-add-pieces Inv-loop μ-loop
 add-pieces c =
     let q = c .before .before in
     let s = begin q in
-    record { fits = omega (arith, count-then q, count-small (s .args .b) (region s) (s .pre .2) (turn q .loop .r + 1) (omega (arith, c .before .before .before .before .before .before .loop-test .taken))) }
+    record { fits = omega (arith, count-then q, count-small (s .args .b) (region s) (s .pre .2) (turn q .loop .r + 1) (omega (arith, c .before .before .before .before .before .loop-test .taken))) }
 
 add-r : tie.Need-add-r Inv-loop μ-loop
 add-r c = search needs
 
 loop-less : tie.Need-loop-less Inv-loop μ-loop
-loop-less c = omega (arith, c .before .before .before .before .before .before .loop-test .taken)
+loop-less c = omega (arith, c .before .before .before .before .before .loop-test .taken)
 
 loop-again : tie.Need-loop-again Inv-loop μ-loop
-loop-again c = (omega (arith, c .before .before .before .before .before .before .loop-test .taken), tiles-then (c .before .before), count-then (c .before .before))
+loop-again c = (omega (arith, c .before .before .before .before .before .loop-test .taken), tiles-then (c .before .before), count-then (c .before .before))
 
 returns : tie.Need-returns Inv-loop μ-loop
 returns c =
