@@ -1,2 +1,2 @@
-pub mod Report
+mod Report
 pub mod Only

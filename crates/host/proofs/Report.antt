@@ -1,4 +1,4 @@
--- The call's number and report, as a chain of early returns answers them.
+-- The call's number and report, one refusal after another.
 --   report-short, report-card, report-parcels, report-pair     refused with 10, the card's own number, 17, the pair's number
 --   report-done        the 19 numbers are there, and the bytes past them stay
 use mathlib.Core.Path.{_≡_, refl, sym, _∙_, ap}
@@ -8,59 +8,56 @@ use Prim.Native.Nat.{ℕ, _≤_, _<_}
 use native.Mathlib.Omega.{arith}
 use lib.ListN.{length, getD, drop}
 use borrow.Author.Tests.{lt-ltb, le-ltb, eq-eqb, ne-eqb}
+use Rattle.outline.proofs.OrElse.{or-else-first}
 use Rattle.pair.specs.declared.Answer.{Answer}
+use Rattle.pair.specs.Answer.{reportWords}
 use Rattle.endian.specs.Bytes.{u16Bytes}
+use Rattle.endian.specs.Placed.{placed}
+use Rattle.endian.proofs.Placed.{length-same, placed-whole}
 use Rattle.parcels.specs.Reading.{parcelCount}
 use Rattle.parcels.specs.CardNumber.{cardNumber}
-use Rattle.endian.specs.Placed.{placed, wordBytes}
-use Rattle.endian.proofs.Placed.{length-same, placed-whole}
-use Rattle.host.specs.Report.{reportWords, pairIn, hostNumber, hostReport}
+use Rattle.parcels.specs.Pairs.{pairIn}
+use Rattle.host.specs.Report.{reportNumbers, reportLength, reportBytes, hostNumber, hostReport}
 
--- the report is 38 bytes long
-words-long : (ws : List ℕ) → length (wordBytes ws 19) ≡ 38
-words-long ws = length-same (λ k. u16Bytes (getD ws k 0)) 2 (λ k. refl) 19
+report-long : (a : Answer) → length (reportBytes a) ≡ reportLength
+report-long a = length-same (λ k. u16Bytes (getD (reportWords a) k 0)) 2 (λ k. refl) reportNumbers
 
 module _ (card report : List ℕ) where
-  pub report-short : length report < 38 → (10 ≡ hostNumber card report) × (report ≡ hostReport card report)
-  unfolding hostNumber hostReport
-  report-short h = let e = lt-ltb (length report) 38 h in (rw e refl, rw e refl)
+  -- a refusal leaves the report as it was found
+  refused : (n : ℕ) → n ≢ 0 → n ≡ hostNumber card report → (n ≡ hostNumber card report) × (report ≡ hostReport card report)
+  unfolding hostReport
+  refused n z e = (e, sym (rw (ne-eqb (hostNumber card report) 0 (λ q. z (e ∙ q))) refl))
 
-  module _ (room : 38 ≤ length report) where
+  pub report-short : length report < reportLength → (10 ≡ hostNumber card report) × (report ≡ hostReport card report)
+  unfolding hostNumber
+  report-short h = refused 10 (λ q. omega arith) (sym (rw (lt-ltb (length report) reportLength h) refl))
+
+  module _ (room : reportLength ≤ length report) where
     pub report-card : {n : ℕ} → n ≡ cardNumber card → n ≢ 0 → (n ≡ hostNumber card report) × (report ≡ hostReport card report)
-    unfolding hostNumber hostReport
-    report-card e z =
-        let r = le-ltb (length report) 38 room in
-        let c = ne-eqb (cardNumber card) 0 (λ q. z (e ∙ q)) in
-        (rw (r, c) e, rw (r, c, c) refl)
+    unfolding hostNumber
+    report-card {n} e z = refused n z (rw (le-ltb (length report) reportLength room) (e ∙ sym (or-else-first (cardNumber card) _ (λ q. z (e ∙ q)))))
 
     module _ (good : cardNumber card ≡ 0) where
       pub report-parcels : parcelCount card ≢ 2 → (17 ≡ hostNumber card report) × (report ≡ hostReport card report)
-      unfolding hostNumber hostReport
-      report-parcels z =
-          let r = le-ltb (length report) 38 room in
-          let p = ne-eqb (parcelCount card) 2 z in
-          (rw (r, good, p) refl, rw (r, good, p) refl)
+      unfolding hostNumber
+      report-parcels z = refused 17 (λ q. omega arith) (rw (le-ltb (length report) reportLength room, good, ne-eqb (parcelCount card) 2 z) refl)
 
       module _ (two : parcelCount card ≡ 2) {a : Answer} (is : a ≡ pairIn card 0 1) where
-        pub report-pair : a .number ≢ 0 → (a .number ≡ hostNumber card report) × (report ≡ hostReport card report)
-        unfolding hostNumber hostReport
-        report-pair z =
-            let r = le-ltb (length report) 38 room in
-            let p = eq-eqb (parcelCount card) 2 two in
-            let n = ne-eqb (pairIn card 0 1 .number) 0 (λ q. z (ap (λ (x : Answer). x .number) is ∙ q)) in
-            (rw (r, good, p) (ap (λ (x : Answer). x .number) is), rw (r, good, p, n) refl)
+        number-is : a .number ≡ hostNumber card report
+        unfolding hostNumber
+        number-is = rw (le-ltb (length report) reportLength room, good, eq-eqb (parcelCount card) 2 two) (ap (λ (x : Answer). x .number) is)
 
-        pub report-done : a .number ≡ 0 → {b : List ℕ} → b ≡ placed report 0 (wordBytes (reportWords a) 19)
-            → (0 ≡ hostNumber card report) × (b ≡ hostReport card report)
-        unfolding hostNumber hostReport
+        pub report-pair : a .number ≢ 0 → (a .number ≡ hostNumber card report) × (report ≡ hostReport card report)
+        report-pair z = refused (a .number) z number-is
+
+        pub report-done : a .number ≡ 0 → {b : List ℕ} → b ≡ placed report 0 (reportBytes a) → (0 ≡ hostNumber card report) × (b ≡ hostReport card report)
+        unfolding hostReport
         report-done z e =
-            let r = le-ltb (length report) 38 room in
-            let p = eq-eqb (parcelCount card) 2 two in
-            let n : pairIn card 0 1 .number ≡ 0 = ap (λ (x : Answer). x .number) (sym is) ∙ z in
-            let l = words-long (reportWords (pairIn card 0 1)) in (
-              rw (r, good, p) (sym n),
-              rw (r, good, p, n)
-                  (e ∙ ap (λ (x : Answer). placed report 0 (wordBytes (reportWords x) 19)) is
-                  ∙ placed-whole report (wordBytes (reportWords (pairIn card 0 1)) 19) (omega (arith, l, room))
-                  ∙ ap (λ (k : ℕ). wordBytes (reportWords (pairIn card 0 1)) 19 ++ drop k report) l),
+            let n = sym z ∙ number-is in
+            let l = report-long a in (
+              n,
+              e ∙ placed-whole report (reportBytes a) (omega (arith, l, room))
+                  ∙ ap (λ (k : ℕ). reportBytes a ++ drop k report) l
+                  ∙ ap (λ (x : Answer). reportBytes x ++ drop reportLength report) is
+                  ∙ sym (rw (eq-eqb (hostNumber card report) 0 (sym n)) refl),
             )

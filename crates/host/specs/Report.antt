@@ -1,39 +1,37 @@
--- Document 01: "The C host's call takes card bytes and a report buffer and returns 0 or a number. Order: 10 (under 38 bytes), the card's own,
--- 17, 13. Report, 19 little-endian u16: 0, 0, 0, relation of first to second, second to first, rows, columns, nine cells by row, directions
--- of first to second, pieces of first, of second. Bytes past 38 keep their values."
---   reportLength              38 bytes
---   pairIn card j k           the pair answer for parcels j and k of the card, counted from 0 in its order
---   reportWords a             the 19 numbers of an answer
---   hostNumber card report    the number that the call returns;  hostReport  the report buffer at exit
+-- Document 01, the call for the C host: card bytes and a report buffer in, 0 or a number out. Refused in the order 10 (the buffer has less
+-- than 38 bytes), the card's own number, 17, 13. The report is the 19 numbers of the pair answer, little-endian, two bytes each; what the
+-- buffer has behind them stays.
+--   reportNumbers, reportLength     how many numbers a report has, and how many bytes
+--   reportBytes a                   the bytes of an answer's report
+--   hostNumber card report          the number that the call returns;  hostReport card report  the report buffer at exit
+use mathlib.Core.List.{List, _++_}
+use Prim.Native.Nat.{ℕ, _*_}
 use mathlib.Core.Bool.{not}
-use mathlib.Core.List.{List, [], _∷_, _++_}
-use Prim.Native.Nat.{ℕ}
 use lib.Dec.{ltb, eqb}
-use lib.ListN.{length, getD, drop}
+use lib.ListN.{length, drop}
 use Rattle.plane.specs.Choice.{pick}
-use Rattle.outline.specs.Refusals.{number, buffer-short, not-two-parcels}
+use Rattle.outline.specs.Refusals.{numberIf, orElse, buffer-short, not-two-parcels}
 use Rattle.pair.specs.declared.Answer.{Answer}
-use Rattle.pair.specs.Answer.{pairOf}
-use Rattle.endian.specs.Bytes.{u16Bytes, joined}
-use Rattle.parcels.specs.Reading.{parcelCount, endsAt, numbersAt}
+use Rattle.pair.specs.Answer.{reportWords}
+use Rattle.endian.specs.Placed.{wordBytes}
+use Rattle.parcels.specs.Reading.{parcelCount}
 use Rattle.parcels.specs.CardNumber.{cardNumber}
+use Rattle.parcels.specs.Pairs.{pairIn}
+
+abbrev pub reportNumbers : ℕ
+reportNumbers = 19
 
 abbrev pub reportLength : ℕ
-reportLength = 38
+reportLength = 2 * reportNumbers
 
-unfoldable pub pairIn : List ℕ → (j k : ℕ) → Answer
-pairIn card j k = pairOf (numbersAt card j) (endsAt card j) (numbersAt card k) (endsAt card k)
-
-abbrev pub reportWords : Answer → List ℕ
-reportWords a =
-    a .number ∷ a .region ∷ a .ring ∷ a .first ∷ a .second ∷ a .rows ∷ a .columns
-    ∷ (a .cells ++ (a .directions ∷ a .«first_pieces» ∷ a .«second_pieces» ∷ []))
+abbrev pub reportBytes : Answer → List ℕ
+reportBytes a = wordBytes (reportWords a) reportNumbers
 
 unfoldable pub hostNumber : (card report : List ℕ) → ℕ
 hostNumber card report =
-    pick (ltb (length report) reportLength) (number buffer-short)
-    (pick (not (eqb (cardNumber card) 0)) (cardNumber card) (pick (not (eqb (parcelCount card) 2)) (number not-two-parcels) (pairIn card 0 1 .number)))
+    orElse (numberIf (ltb (length report) reportLength) buffer-short)
+    (orElse (cardNumber card)
+    (orElse (numberIf (not (eqb (parcelCount card) 2)) not-two-parcels) (pairIn card 0 1 .number)))
 
 unfoldable pub hostReport : (card report : List ℕ) → List ℕ
-hostReport card report =
-    pick (eqb (hostNumber card report) 0) (joined (λ k. u16Bytes (getD (reportWords (pairIn card 0 1)) k 0)) 19 ++ drop reportLength report) report
+hostReport card report = pick (eqb (hostNumber card report) 0) (reportBytes (pairIn card 0 1) ++ drop reportLength report) report
