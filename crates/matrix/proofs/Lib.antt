@@ -6,3 +6,4 @@ pub mod Holding
 pub mod Matrix
 pub mod Directions
 pub mod DirectionSets
+pub mod Only
