@@ -6,4 +6,5 @@ pub mod Holding
 pub mod Matrix
 pub mod Directions
 pub mod DirectionSets
+pub mod Meaning
 pub mod Only
