@@ -9,7 +9,7 @@ use native.Mathlib.Omega.{arith}
 use lib.Signed.{_<ℤ_}
 use Rattle.plane.specs.Place.{placeOf}
 use Rattle.plane.specs.Points.{Lines}
-use Rattle.plane.specs.Placed.{LinesInRange, boxOf}
+use Rattle.plane.specs.Placed.{LinesInRange}
 use Rattle.plane.specs.Folds.{leastTo, greatestTo}
 use Rattle.plane.proofs.Logic.{never}
 use Rattle.plane.proofs.Folds.{least-le, least-is, greatest-ge, greatest-is}
@@ -19,13 +19,12 @@ use Rattle.ring.specs.RingBox.{stretchBox}
 use Rattle.ring.specs.Turning.{clockwise}
 use Rattle.ring.proofs.Turning.{clockwise-means}
 use Rattle.ring.proofs.Positive.{positive}
-use Rattle.ring.proofs.RingBox.{box-in-range}
 use Rattle.outline.specs.Region.{Region, sizeOf, lastEnd}
 use Rattle.outline.specs.Rules.{Keeps, KeepsRules}
 use Rattle.outline.proofs.Ends.{ring-in-last}
 use Rattle.outline.proofs.Keeps.{keeps-fewer, Sized, sized, in-range}
 use Rattle.relation.specs.Relation.{RegionBox, regionBox}
-use Rattle.relation.proofs.Regions.{region-in-range, region-box-means}
+use Rattle.relation.proofs.Regions.{lines-in-range, region-box-is}
 
 -- a stretch reaches at least as far as its beginning
 module _ (f : ℕ → ℕ) (m n : ℕ) (h : m ≤ n) where
@@ -71,13 +70,10 @@ module _ {R : Region} (kept : KeepsRules R) where
 
   module _ (L : Lines) (is : RegionBox R L) where
     range : LinesInRange L
-    range = box-in-range (R .coordinates) 0 (lastEnd (R .ends)) (region-in-range four) L is
-
-    box : regionBox R ≡ boxOf L
-    box = region-box-means four L range .1 is
+    range = lines-in-range four L is
 
     pub box-wide : L .west <ℤ L .east
-    box-wide = place-lt (L .west) (L .east) (range .west) (range .east) .1 (rw box at wide)
+    box-wide = place-lt (L .west) (L .east) (range .west) (range .east) .1 (rw (region-box-is four L is) at wide)
 
     pub box-high : L .south <ℤ L .north
-    box-high = place-lt (L .south) (L .north) (range .south) (range .north) .1 (rw box at high)
+    box-high = place-lt (L .south) (L .north) (range .south) (range .north) .1 (rw (region-box-is four L is) at high)
