@@ -5,9 +5,10 @@
 --   value-second       and 2 or 3 exactly when it holds the second
 --   HoldsWhere L M Has p q u v    the cell between p, q and u, v lies inside the box L, and the tile of the box M around it is one that `Has` tells of
 --   holds-where        a cell holds a region exactly there, where the region's relation is the set that `Has` tells of
---   threeRows l        nine numbers as three rows of three
---   flat-at, flat-rows the nine values by row: number 3 i + j stands in row i and column j, and the three rows are the matrix again
-use mathlib.Core.Path.{_≡_, refl, _∙_}
+--   threeRows l        nine numbers as three rows of three;  rows-at  the value in row i and column j is number 3 i + j
+--   flat-at            of the nine values of a matrix by row, number 3 i + j is the one in row i and column j
+--   flat-rows          and their three rows are the matrix again
+use mathlib.Core.Path.{_≡_, refl, _∙_, ap}
 use mathlib.Core.Logic.{_↔_, _⊎_, inl, inr, ⊎-elim}
 use mathlib.Core.Bool.{Bool, true, false}
 use mathlib.Core.List.{List, []}
@@ -116,6 +117,11 @@ holds-where L M relation Has tells p q u v = (
 -- ---- the nine values by row
 abbrev pub threeRows : List ℕ → List (List ℕ)
 threeRows l = tab (λ i. tab (λ j. getD l (3 * i + j) 0) 3) 3
+
+pub rows-at : (l : List ℕ) (i j : ℕ) → i < 3 → j < 3 → valueAt (threeRows l) i j ≡ getD l (3 * i + j) 0
+rows-at l i j hi hj =
+    ap (λ (k : List ℕ). getD k j 0) (getD-tab (λ (i : ℕ). tab (λ (j : ℕ). getD l (3 * i + j) 0) 3) [] 3 i hi)
+    ∙ getD-tab (λ (j : ℕ). getD l (3 * i + j) 0) 0 3 j hj
 
 pub flat-at : (m : List (List ℕ)) (i j : ℕ) → i < 3 → j < 3 → getD (flatOf m) (3 * i + j) 0 ≡ valueAt m i j
 unfolding flatOf
