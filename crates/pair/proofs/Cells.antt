@@ -19,8 +19,6 @@ use Rattle.plane.specs.Points.{Lines}
 use Rattle.plane.specs.Placed.{LinesInRange, Upright, boxOf}
 use Rattle.plane.proofs.Logic.{iff-join}
 use Rattle.outline.specs.Region.{Region}
-use Rattle.outline.specs.Rules.{Keeps}
-use Rattle.outline.proofs.Keeps.{keeps-fewer}
 use Rattle.relation.specs.Relation.{RegionBox, RegionHas, regionBox}
 use Rattle.relation.proofs.Regions.{lines-in-range, region-box-is, region-upright}
 use Rattle.relation.proofs.Spread.{wide, high}
@@ -32,7 +30,7 @@ use Rattle.matrix.proofs.Meaning.{row-count-means, column-count-means, value-fi
 use Rattle.matrix.proofs.Meaning as matrix
 use Rattle.pair.specs.declared.Answer.{Answer}
 use Rattle.pair.specs.Answer.{given, pairOf}
-use Rattle.pair.proofs.Laws.{Answered, fields-are, tile-means, back-tile-means}
+use Rattle.pair.proofs.Laws.{Answered, four, fields-are, tile-means, back-tile-means}
 
 abbrev pub cellOf : Answer → (i j : ℕ) → ℕ
 cellOf a i j = getD (a .cells) (3 * i + j) 0
@@ -40,9 +38,6 @@ cellOf a i j = getD (a .cells) (3 * i + j) 0
 module _ (first second : Region) (a : Answered first second) where
   abbrev answer : Answer
   answer = pairOf first second
-
-  four : Keeps 4 first × Keeps 4 second
-  four = (keeps-fewer (omega arith) (a .first-kept), keeps-fewer (omega arith) (a .second-kept))
 
   pub rows-between : (1 ≤ answer .rows) × (answer .rows ≤ 3)
   unfolding given
@@ -67,13 +62,13 @@ module _ (first second : Region) (a : Answered first second) where
   module _ (L M : Lines) (one : RegionBox first L) (two : RegionBox second M) where
     -- the two boxes in places
     range : LinesInRange L × LinesInRange M
-    range = (lines-in-range (four .0) L one, lines-in-range (four .1) M two)
+    range = (lines-in-range (four first second a .0) L one, lines-in-range (four first second a .1) M two)
 
     first-box : regionBox first ≡ boxOf L
-    first-box = region-box-is (four .0) L one
+    first-box = region-box-is (four first second a .0) L one
 
     second-box : regionBox second ≡ boxOf M
-    second-box = region-box-is (four .1) M two
+    second-box = region-box-is (four first second a .1) M two
 
     upright : Upright (boxOf L) × Upright (boxOf M)
     upright = (rw first-box at (region-upright first), rw second-box at (region-upright second))

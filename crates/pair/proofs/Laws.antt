@@ -1,26 +1,20 @@
--- What the pair answer says, in words that a user can check against a map.
---   number-means      number 0 exactly when both regions keep rules 1 to 7: they are `Answered`
+-- What the pair answer says, in words that a user can check against a map: both relations and both piece counts. The other fields: number, region
+-- and ring in proofs/Refusals, rows, columns and cells in proofs/Cells, directions and "around" in proofs/Directions.
+--   number-means      number 0 exactly when both regions keep rules 1 to 7: they are `Answered`;  four  they keep rules 1 to 4 then
 --   fields-are        the fields of such an answer
 --   some-tile         it is never refused for want of a tile
 --   tile-means, back-tile-means         tile k is in the relation of the first region to the second, of the second to the first, exactly
 --                     when the document's rule finds it there
 --   pieces-mean, back-pieces-mean       the pieces of the first region against the second's box, of the second against the first's
---   pieces-between, relation-below      the pieces are at least the edges and at most five times as many; a relation is nine tiles
---   around-means      around is yes exactly when the directions are the eight without O
---   turned, directions-turned           the answer the other way; its directions are the opposites
+--   pieces-between, back-pieces-between     the pieces are at least the edges and at most five times as many
+--   relation-below, back-relation-below     a relation is nine tiles and nothing else
 use mathlib.Core.Path.{_≡_, refl, ap}
 use mathlib.Core.Logic.{_↔_, _≢_}
-use mathlib.Core.Bool.{Bool, true, false, not}
 use Prim.Native.Nat.{ℕ, zero, suc, _*_, _≤_, _<_}
 use native.Mathlib.Omega.{arith}
-use lib.Dec.{eqb}
 use borrow.Author.Tests.{ne-eqb}
-use Rattle.plane.specs.Choice.{pick}
 use Rattle.plane.specs.Points.{Lines}
-use Rattle.plane.specs.TileSet.{setOf, bit}
-use Rattle.plane.proofs.Logic.{iff-join, both, eq-means, not-means, iff-not, iff-turn}
-use Rattle.plane.proofs.TileSet.{set-means, set-same}
-use Rattle.ring.specs.declared.Seen.{Seen}
+use Rattle.plane.specs.TileSet.{bit}
 use Rattle.outline.specs.declared.Checked.{Checked}
 use Rattle.outline.specs.declared.Checked.the-variants.{Accepted, Refused}
 use Rattle.outline.specs.Region.{Region, lastEnd}
@@ -32,11 +26,8 @@ use Rattle.relation.specs.Relation.{RegionBox, RegionHas, RegionPieces, regionB
 use Rattle.relation.proofs.Regions.{region-upright}
 use Rattle.relation.proofs.Relation.{relation-tile, pieces-count, region-pieces-le, relation-lt}
 use Rattle.relation.proofs.Never.{relation-some}
-use Rattle.matrix.specs.Matrix.{matrixOf}
-use Rattle.matrix.specs.Directions.{directed, directionsOf, opposite}
-use Rattle.matrix.proofs.Directions.{pair-opposite}
 use Rattle.pair.specs.declared.Answer.{Answer}
-use Rattle.pair.specs.Answer.{refusedWith, orRefused, given, answerFor, answerOf, pairOf, aroundOf}
+use Rattle.pair.specs.Answer.{orRefused, given, answerFor, answerOf, pairOf}
 
 module _ (first second : Region) where
   pub record Answered : Type 0 where
@@ -47,7 +38,7 @@ module _ (first second : Region) where
   whole = given (regionBox first) (regionBox second) (regionSeen (regionBox second) first) (regionSeen (regionBox first) second)
 
   module _ (a : Answered) where
-    four : Keeps 4 first × Keeps 4 second
+    pub four : Keeps 4 first × Keeps 4 second
     four = (keeps-fewer (omega arith) (a .first-kept), keeps-fewer (omega arith) (a .second-kept))
 
     pub some-tile : (relationOf (regionBox second) first ≢ 0) × (relationOf (regionBox first) second ≢ 0)
@@ -86,9 +77,17 @@ module _ (first second : Region) where
     unfolding given
     pieces-between = rw fields-are (region-pieces-le (four .0) (regionBox second))
 
+    pub back-pieces-between : (lastEnd (second .ends) ≤ pairOf first second .«second_pieces») × (pairOf first second .«second_pieces» ≤ lastEnd (second .ends) * 5)
+    unfolding given
+    back-pieces-between = rw fields-are (region-pieces-le (four .1) (regionBox first))
+
     pub relation-below : pairOf first second .first < 512
     unfolding given
     relation-below = rw fields-are (relation-lt (regionBox second) first)
+
+    pub back-relation-below : pairOf first second .second < 512
+    unfolding given
+    back-relation-below = rw fields-are (relation-lt (regionBox first) second)
 
   -- a refusal by the check has a number that is not 0
   refused-number : (R : Region) (n r : ℕ) → checkOf R ≡ Refused n r → n ≡ 0 → ⊥
@@ -110,57 +109,3 @@ module _ (first second : Region) where
   pub number-means : (pairOf first second .number ≡ 0) ↔ Answered
   unfolding given
   number-means = (number-there, λ a. ap (λ (r : Answer). r .number) (fields-are a))
-
--- ---- around
-abbrev eight : ℕ → Bool
-eight k = not (eqb k 4)
-
-module _ (f : ℕ → Bool) where
-  eight-there : setOf f 9 ≡ 495 → (k : ℕ) → k < 9 → (bit (setOf f 9) k ≡ 1) ↔ (k ≢ 4)
-  unfolding setOf
-  eight-there e k h = rw e (iff-join (set-means eight 9 k h) (iff-join (not-means (eqb k 4)) (iff-not (eq-means k 4))))
-
-  eight-back : ((k : ℕ) → k < 9 → (bit (setOf f 9) k ≡ 1) ↔ (k ≢ 4)) → setOf f 9 ≡ 495
-  unfolding setOf
-  eight-back e = set-same f eight 9 (λ k h. both (f k) (eight k)
-      (iff-join (iff-turn (set-means f 9 k h)) (iff-join (e k h) (iff-turn (iff-join (not-means (eqb k 4)) (iff-not (eq-means k 4)))))))
-
-module _ (first second : Region) where
-  -- the directions of any pair answer are a set of the nine
-  directions-set : (f : ℕ → Bool) × (pairOf first second .directions ≡ setOf f 9)
-  unfolding pairOf answerOf answerFor given setOf directionsOf
-  directions-set = one (checkOf first)
-    where
-      there : Seen
-      there = regionSeen (regionBox second) first
-
-      back : Seen
-      back = regionSeen (regionBox first) second
-
-      tiles : (s t : Bool) → (f : ℕ → Bool) × ((pick s (refusedWith 13 1 0) (pick t (refusedWith 13 2 0) (whole first second))) .directions ≡ setOf f 9)
-      tiles true t = (λ k. false, refl)
-      tiles false true = (λ k. false, refl)
-      tiles false false = (directed (matrixOf (regionBox first) (regionBox second) (there .set) (back .set)), refl)
-
-      two : (c : Checked) → (f : ℕ → Bool) × ((orRefused c 2 (answerOf first second)) .directions ≡ setOf f 9)
-      two Accepted = tiles (eqb (there .set) 0) (eqb (back .set) 0)
-      two (Refused n r) = (λ k. false, refl)
-
-      one : (c : Checked) → (f : ℕ → Bool) × ((orRefused c 1 (orRefused (checkOf second) 2 (answerOf first second))) .directions ≡ setOf f 9)
-      one Accepted = two (checkOf second)
-      one (Refused n r) = (λ k. false, refl)
-
-  pub around-means : (aroundOf (pairOf first second) ≡ true) ↔ ((k : ℕ) → k < 9 → (bit (pairOf first second .directions) k ≡ 1) ↔ (k ≢ 4))
-  unfolding aroundOf
-  around-means =
-      let d = directions-set in
-      iff-join (eq-means (pairOf first second .directions) 495) (rw (d .1) (eight-there (d .0), eight-back (d .0)))
-
-  pub turned : Answered first second → Answered second first
-  turned a = record { first-kept = a .second-kept; second-kept = a .first-kept }
-
-  pub directions-turned : Answered first second → pairOf second first .directions ≡ opposite (pairOf first second .directions)
-  unfolding given
-  directions-turned a =
-      rw (fields-are first second a, fields-are second first (turned a))
-      (pair-opposite (regionBox first) (regionBox second) (relationOf (regionBox second) first) (relationOf (regionBox first) second))

@@ -1,4 +1,6 @@
 pub mod Laws
-pub mod Only
 pub mod Refusals
 pub mod Cells
+pub mod Directions
+pub mod Compass
+pub mod Only

@@ -1,0 +1,78 @@
+-- The directions of the pair answer and the word "around", for any two regions; a refused answer has none.
+--   directions-are       the directions are those of the answer's own nine cells, three rows of three
+--   directions-mean      direction k is there exactly when some cell whose value holds the first region lies in that direction from some cell
+--                        whose value holds the second (what a value holds: proofs/Cells; both together: proofs/Compass)
+--   directions-below     the directions are nine bits and nothing else
+--   around-means         around is yes exactly when the directions are the eight without O
+--   turned, directions-turned    accepted the other way too; the directions are then the opposites
+use mathlib.Core.Path.{_≡_, refl, sym, ap}
+use mathlib.Core.Logic.{_↔_, _⊎_, _≢_, inl, inr}
+use mathlib.Core.Bool.{Bool, true, not}
+use Prim.Native.Nat.{ℕ, _<_}
+use lib.Dec.{eqb}
+use Rattle.plane.specs.Folds.{anyTo}
+use Rattle.plane.specs.Lists.{tabFrom}
+use Rattle.plane.specs.TileSet.{setOf, bit}
+use Rattle.plane.proofs.Logic.{iff-join, iff-turn, iff-not, both, eq-means, not-means}
+use Rattle.plane.proofs.TileSet.{set-lt, set-means, set-same}
+use Rattle.outline.specs.Region.{Region}
+use Rattle.relation.specs.Relation.{regionBox, relationOf}
+use Rattle.matrix.specs.Directions.{Direction, holdsFirst, directed, directionsOf, opposite}
+use Rattle.matrix.proofs.Meaning.{threeRows, flat-rows}
+use Rattle.matrix.proofs.Directions as matrix
+use Rattle.pair.specs.Answer.{given, pairOf, aroundOf}
+use Rattle.pair.proofs.Laws.{Answered, fields-are}
+use Rattle.pair.proofs.Refusals.{RefusedPair, refused-means, answered-or-refused}
+
+module _ (first second : Region) where
+  pub directions-are : pairOf first second .directions ≡ directionsOf (threeRows (pairOf first second .cells))
+  unfolding given directionsOf directed holdsFirst anyTo setOf tabFrom
+  directions-are = go (answered-or-refused first second)
+    where
+      go : Answered first second ⊎ ((n : ℕ) × (g : ℕ) × (r : ℕ) × RefusedPair first second n g r)
+          → pairOf first second .directions ≡ directionsOf (threeRows (pairOf first second .cells))
+      go (inl a) =
+          rw (fields-are first second a)
+          (sym (ap directionsOf (flat-rows (regionBox first) (regionBox second) (relationOf (regionBox second) first) (relationOf (regionBox first) second))))
+      go (inr x) = rw (refused-means first second (x .0) (x .1) (x .2) .1 (x .3)) refl
+
+  pub directions-mean : (k : ℕ) → k < 9 → (bit (pairOf first second .directions) k ≡ 1) ↔ Direction (threeRows (pairOf first second .cells)) k
+  directions-mean k h = rw directions-are (matrix.directions-mean (threeRows (pairOf first second .cells)) k h)
+
+  pub directions-below : pairOf first second .directions < 512
+  unfolding directionsOf
+  directions-below = rw directions-are (set-lt (directed (threeRows (pairOf first second .cells))) 9)
+
+-- ---- around
+abbrev eight : ℕ → Bool
+eight k = not (eqb k 4)
+
+eight-means : (k : ℕ) → (eight k ≡ true) ↔ (k ≢ 4)
+eight-means k = iff-join (not-means (eqb k 4)) (iff-not (eq-means k 4))
+
+module _ (f : ℕ → Bool) where
+  eight-there : setOf f 9 ≡ 495 → (k : ℕ) → k < 9 → (bit (setOf f 9) k ≡ 1) ↔ (k ≢ 4)
+  unfolding setOf
+  eight-there e k h = rw e (iff-join (set-means eight 9 k h) (eight-means k))
+
+  eight-back : ((k : ℕ) → k < 9 → (bit (setOf f 9) k ≡ 1) ↔ (k ≢ 4)) → setOf f 9 ≡ 495
+  unfolding setOf
+  eight-back e =
+      set-same f eight 9 (λ k h. both (f k) (eight k) (iff-join (iff-turn (set-means f 9 k h)) (iff-join (e k h) (iff-turn (eight-means k)))))
+
+module _ (first second : Region) where
+  pub around-means : (aroundOf (pairOf first second) ≡ true) ↔ ((k : ℕ) → k < 9 → (bit (pairOf first second .directions) k ≡ 1) ↔ (k ≢ 4))
+  unfolding aroundOf directionsOf
+  around-means =
+      let f : ℕ → Bool = directed (threeRows (pairOf first second .cells)) in
+      iff-join (eq-means (pairOf first second .directions) 495) (rw (directions-are first second) (eight-there f, eight-back f))
+
+  -- ---- the answer the other way
+  pub turned : Answered first second → Answered second first
+  turned a = record { first-kept = a .second-kept; second-kept = a .first-kept }
+
+  pub directions-turned : Answered first second → pairOf second first .directions ≡ opposite (pairOf first second .directions)
+  unfolding given
+  directions-turned a =
+      rw (fields-are first second a, fields-are second first (turned a))
+      (matrix.pair-opposite (regionBox first) (regionBox second) (relationOf (regionBox second) first) (relationOf (regionBox first) second))
