@@ -24,7 +24,7 @@ use Rattle.plane.specs.TileSet.{one-if, bit}
 use Rattle.plane.specs.declared.Box.{Box}
 use Rattle.plane.proofs.Logic.{never, iff-join}
 use Rattle.plane.proofs.Lists.{getD-tab}
-use Rattle.edge.specs.Tiles.{columnOf, rowOf}
+use Rattle.plane.specs.Tiles.{columnOf, rowOf}
 use Rattle.matrix.specs.Grid.{Strips, Cell}
 use Rattle.matrix.specs.Holding.{RangeContains, Holds, columnCount, rowCount}
 use Rattle.matrix.specs.Matrix.{cellValue, matrixOf, flatOf}
