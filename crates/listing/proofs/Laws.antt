@@ -10,8 +10,8 @@ use native.Mathlib.Decide.{decLt}
 use lib.ListN.{length, take}
 use lib.Seq.{take-all, length-take-le}
 use Rattle.parcels.specs.CardNumber.{wrongHeader, cardNumber}
-use Rattle.parcels.proofs.CardTests.{card-header-wrong}
-use Rattle.parcels.proofs.Bounds.{header-means}
+use Rattle.parcels.proofs.Tests.{header-means}
+use Rattle.parcels.proofs.Good.{card-header-wrong}
 use Rattle.listing.specs.Listing.{listing}
 
 pub long-refused : (b : List ℕ) → 17036 < length b → cardNumber b ≡ 14

@@ -21,9 +21,9 @@ use Rattle.pair.specs.declared.Answer.{Answer}
 use Rattle.endian.specs.Bytes.{joined}
 use Rattle.parcels.specs.Reading.{parcelCount, slotAt}
 use Rattle.parcels.specs.CardNumber.{cardNumber}
-use Rattle.parcels.proofs.Good.{good-tests}
-use Rattle.parcels.proofs.Bounds.{header-means}
-use Rattle.host.specs.Report.{pairIn}
+use Rattle.parcels.proofs.Tests.{header-means}
+use Rattle.parcels.proofs.Good.{good-means, good-right}
+use Rattle.parcels.specs.Pairs.{pairIn}
 use Rattle.listing.specs.Names.{namesOf, B, O}
 use Rattle.listing.specs.Listing.{space, lineFeed, decimal, parcelsWord, refusedWord, pairLine, lineOf, listing}
 use Rattle.listing.specs.Steps.{rowOf}
@@ -118,10 +118,10 @@ module _ (card : List ℕ) where
   listed e = rw (eq-eqb (cardNumber card) 0 e) (ap (λ (l : List ℕ). parcelsWord ++ l) (word (decimal (parcelCount card)) lineFeed _))
 
   pub counted : cardNumber card ≡ 0 → 2 ≤ length card
-  counted e = omega (arith, header-means card (good-tests card e .header) .total)
+  counted e = omega (arith, header-means card (good-right card (good-means card .0 e) .parcels .header) .total)
 
   pub few-parcels : cardNumber card ≡ 0 → parcelCount card ≤ 32
-  few-parcels e = header-means card (good-tests card e .header) .few-parcels
+  few-parcels e = header-means card (good-right card (good-means card .0 e) .parcels .header) .few-parcels
 
   pub listing-le : length (listing card) ≤ 131072
   listing-le =

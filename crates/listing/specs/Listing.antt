@@ -14,7 +14,7 @@ use Rattle.pair.specs.declared.Answer.{Answer}
 use Rattle.endian.specs.Bytes.{joined}
 use Rattle.parcels.specs.Reading.{parcelCount, slotAt}
 use Rattle.parcels.specs.CardNumber.{cardNumber}
-use Rattle.host.specs.Report.{pairIn}
+use Rattle.parcels.specs.Pairs.{pairIn}
 use Rattle.io.specs.Digits.{digits}
 use Rattle.listing.specs.Names.{namesOf, B, O}
 

@@ -9,7 +9,7 @@ ghost use Rattle.listing.specs.Listing.{pairLine, lineOf};
 ghost use Rattle.listing.specs.Steps.{Put, rowOf};
 use crate::names::put_set;
 use crate::texts::put_number;
-use host::pair_in;
+use parcels::pair_in;
 use pair::Answer;
 use parcels::parcel_count;
 use parcels::slot_at;

@@ -2,7 +2,7 @@ use borrow.Author.Needs.{needs}
 use mathlib.Core.Path.{_≡_, sym, ap}
 use native.Mathlib.Omega.{arith}
 use lib.ListN.{length}
-use Rattle.parcels.proofs.Good.{good-tests}
+use Rattle.parcels.proofs.Good.{good-means, good-right}
 use Rattle.parcels.proofs.Bounds.{entry-there}
 use Rattle.listing.specs.Listing.{pairLine, lineOf}
 use Rattle.listing.proofs.Putting.{put-none, put-as}
@@ -12,7 +12,7 @@ use Rattle.listing.proofs.lines.put_pair.Tie as tie
 use Rattle.listing.proofs.lines.put_pair.Reads as reads
 use Rattle.listing.proofs.lines.put_pair.Lts as lts
 use Rattle.parcels.proofs.slot_at.Reads as slot-at-reads
-use Rattle.host.proofs.pair_in.Reads as pair-in-reads
+use Rattle.parcels.proofs.pair_in.Reads as pair-in-reads
 use Rattle.listing.proofs.lines.put_line.Reads as put-line-reads
 
 -- the line that is put
@@ -33,12 +33,12 @@ pair-in-requires c κs = search needs
 slot-at-requires : tie.Need-slot-at-requires
 slot-at-requires c κs =
     let s = c .before .before .before .before .before in
-    entry-there (s .args .card .now) (good-tests (s .args .card .now) (s .pre .0) .header) (s .args .j) (s .pre .1)
+    entry-there (s .args .card .now) (good-right (s .args .card .now) (good-means (s .args .card .now) .0 (s .pre .0)) .parcels .header) (s .args .j) (s .pre .1)
 
 slot-at-requires-2 : tie.Need-slot-at-requires-2
 slot-at-requires-2 c κs =
     let s = c .before .before .before .before .before .before in
-    entry-there (s .args .card .now) (good-tests (s .args .card .now) (s .pre .0) .header) (s .args .k) (s .pre .2)
+    entry-there (s .args .card .now) (good-right (s .args .card .now) (good-means (s .args .card .now) .0 (s .pre .0)) .parcels .header) (s .args .k) (s .pre .2)
 
 put-line-requires : tie.Need-put-line-requires
 put-line-requires c κs =
