@@ -47,43 +47,13 @@ fn pair_with(
 
 // The numbers of an answer in the order of the host's report, and 1 or 0 for "around".
 fn put_answer(answer: pair::Answer, out: &mut [u8], at: usize) -> usize {
-    let numbers = numbers_of(answer);
+    let numbers = pair::report_words(answer);
     let next = words::put_natural(out, at, numbers[0] as u64);
-    answers::put_numbers(out, next, &numbers[1..20])
+    let next = answers::put_numbers(out, next, &numbers[1..19]);
+    answers::put_number(out, next, bit(pair::around(answer)))
 }
 
-fn numbers_of(a: pair::Answer) -> [u16; 20] {
-    let c = a.cells;
-    let around = pair::around(a);
-    [
-        a.number,
-        a.region,
-        a.ring,
-        a.first,
-        a.second,
-        a.rows,
-        a.columns,
-        wide(c[0]),
-        wide(c[1]),
-        wide(c[2]),
-        wide(c[3]),
-        wide(c[4]),
-        wide(c[5]),
-        wide(c[6]),
-        wide(c[7]),
-        wide(c[8]),
-        a.directions,
-        a.first_pieces,
-        a.second_pieces,
-        bit(around),
-    ]
-}
-
-fn wide(cell: u8) -> u16 {
-    cell as u16
-}
-
-fn bit(around: bool) -> u16 {
+fn bit(around: bool) -> u64 {
     if around { 1 } else { 0 }
 }
 
