@@ -9,7 +9,13 @@ use input::Place;
 use requests::Reply;
 use requests::answers;
 use requests::fronts;
+use layout::lists::COORDINATES;
+use layout::lists::RECORDS;
+use layout::lists::RELATIONS;
 use requests::lists;
+use requests::lists::COORDINATES_KEPT;
+use requests::lists::RECORDS_KEPT;
+use requests::lists::RELATIONS_KEPT;
 use requests::pairs;
 
 // The bytes that a line may have.
@@ -23,10 +29,10 @@ fn main() {
     let mut chunk = io::large_buffer();
     let mut line = io::large_buffer();
     let mut out = [0u8; 131072];
-    let mut xs = [0i32; 4097];
-    let mut records = [0u16; 289];
-    let mut relations = [0u16; 1025];
-    let mut lent = [4096, 288, 1024];
+    let mut xs = [0i32; COORDINATES_KEPT];
+    let mut records = [0u16; RECORDS_KEPT];
+    let mut relations = [0u16; RELATIONS_KEPT];
+    let mut lent = [COORDINATES, RECORDS, RELATIONS];
     serve(
         &mut chunk,
         &mut line,
@@ -43,9 +49,9 @@ fn serve(
     chunk: &mut [u8; 65536],
     line: &mut [u8; 65536],
     out: &mut [u8; 131072],
-    xs: &mut [i32; 4097],
-    records: &mut [u16; 289],
-    relations: &mut [u16; 1025],
+    xs: &mut [i32; COORDINATES_KEPT],
+    records: &mut [u16; RECORDS_KEPT],
+    relations: &mut [u16; RELATIONS_KEPT],
     lent: &mut [usize; 3],
 ) {
     let mut p = input::start();
@@ -65,9 +71,9 @@ fn turn(
     chunk: &mut [u8; 65536],
     line: &mut [u8; 65536],
     out: &mut [u8; 131072],
-    xs: &mut [i32; 4097],
-    records: &mut [u16; 289],
-    relations: &mut [u16; 1025],
+    xs: &mut [i32; COORDINATES_KEPT],
+    records: &mut [u16; RECORDS_KEPT],
+    relations: &mut [u16; RELATIONS_KEPT],
     lent: &mut [usize; 3],
 ) -> Place {
     let p = input::take_line(before, chunk, line);
@@ -90,9 +96,9 @@ fn answer(
     held: usize,
     out: &mut [u8; 131072],
     from: usize,
-    xs: &mut [i32; 4097],
-    records: &mut [u16; 289],
-    relations: &mut [u16; 1025],
+    xs: &mut [i32; COORDINATES_KEPT],
+    records: &mut [u16; RECORDS_KEPT],
+    relations: &mut [u16; RELATIONS_KEPT],
     lent: &mut [usize; 3],
 ) -> usize {
     let at = answers::room(out, from, MUCH);
@@ -115,9 +121,9 @@ fn ask(
     line: &[u8],
     out: &mut [u8; 131072],
     at: usize,
-    xs: &mut [i32; 4097],
-    records: &mut [u16; 289],
-    relations: &mut [u16; 1025],
+    xs: &mut [i32; COORDINATES_KEPT],
+    records: &mut [u16; RECORDS_KEPT],
+    relations: &mut [u16; RELATIONS_KEPT],
     lent: &mut [usize; 3],
 ) -> Reply {
     let word = words::read_name(line, 0);

@@ -9,11 +9,11 @@ pub const SLOTS: usize = 32;
 
 pub const LAST_SLOT: u16 = 31;
 
-const COORDINATES: usize = 4096;
+pub const COORDINATES: usize = 4096;
 
-const RECORDS: usize = 288;
+pub const RECORDS: usize = 288;
 
-const RELATIONS: usize = 1024;
+pub const RELATIONS: usize = 1024;
 
 // Rule 11 for a reading, which is lent two of the lists.
 pub fn wrong_tables(records: &[u16], relations: &[u16]) -> bool

@@ -1,17 +1,20 @@
 // The requests on the sheet's lists themselves: lend, poke, sheet.
 use crate::Reply;
+use layout::lists::COORDINATES;
+use layout::lists::RECORDS;
+use layout::lists::RELATIONS;
 use words::COLON;
 use words::Integer;
 use words::Natural;
 use words::SPACE;
 
 const EQUALS: u8 = 61;
-// The room of the lists.
-const COORDINATES: u16 = 4097;
+// The desk keeps each list with a place more than the sheet has, so that lists of a wrong length can be lent.
+pub const COORDINATES_KEPT: usize = COORDINATES + 1;
 
-const RECORDS: u16 = 289;
+pub const RECORDS_KEPT: usize = RECORDS + 1;
 
-const RELATIONS: u16 = 1025;
+pub const RELATIONS_KEPT: usize = RELATIONS + 1;
 
 pub fn lend_reply(line: &[u8], from: usize, lent: &mut [usize; 3]) -> Reply {
     let number = words::read_natural(line, from);
@@ -26,22 +29,22 @@ pub fn lend_reply(line: &[u8], from: usize, lent: &mut [usize; 3]) -> Reply {
     let Natural::Is { value: c, next: _ } = number else {
         return Reply::Bad;
     };
-    lend(a, b, c, lent)
+    lend(a as usize, b as usize, c as usize, lent)
 }
 
-fn lend(a: u16, b: u16, c: u16, lent: &mut [usize; 3]) -> Reply {
-    if COORDINATES < a {
+fn lend(a: usize, b: usize, c: usize, lent: &mut [usize; 3]) -> Reply {
+    if COORDINATES_KEPT < a {
         return Reply::Bad;
     }
-    if RECORDS < b {
+    if RECORDS_KEPT < b {
         return Reply::Bad;
     }
-    if RELATIONS < c {
+    if RELATIONS_KEPT < c {
         return Reply::Bad;
     }
-    lent[0] = a as usize;
-    lent[1] = b as usize;
-    lent[2] = c as usize;
+    lent[0] = a;
+    lent[1] = b;
+    lent[2] = c;
     Reply::Ok
 }
 
