@@ -19,7 +19,7 @@ use Rattle.edge.specs.Walk.{linesAtStart, linesPast, rangeAfter, tileOf, enterO
 use Rattle.edge.specs.Drawn.{has, pieces}
 use Rattle.ring.specs.Edges.{nextOf, ringEdge}
 use Rattle.ring.specs.RingBox.{stretchBox, covers}
-use Rattle.ring.specs.Centre.{eastward, crossesRay, encloses}
+use Rattle.ring.specs.Enclosed.{eastward, crossesAt, enclosesAt}
 use Rattle.ring.specs.RingTiles.{edgesHave, ringHas, ringPieces}
 use Rattle.relation.specs.Relation.{regionBox, regionHas, relationOf, regionPieces}
 use Rattle.matrix.specs.Holding.{insert, linesOf, cellAt, rangeOf, holds}
@@ -27,7 +27,7 @@ use Rattle.matrix.specs.Matrix.{cellValue, matrixOf, flatOf}
 use Rattle.outlines.specs.Rows.{square, corner, apart, triangle, crossed, large, ring}
 
 pub border-once : bit (relationOf (regionBox square) ring) 4 ≡ 0
-unfolding placeOf anyTo sumTo leastTo greatestTo setOf sooner riseOf fallOf axisOf linesAtStart linesPast rangeAfter tileOf enterOf stepOf stateOf listOf standsIn has nextOf ringEdge stretchBox covers eastward crossesRay encloses edgesHave ringHas regionBox regionHas relationOf
+unfolding placeOf anyTo sumTo leastTo greatestTo setOf sooner riseOf fallOf axisOf linesAtStart linesPast rangeAfter tileOf enterOf stepOf stateOf listOf standsIn has nextOf ringEdge stretchBox covers eastward crossesAt enclosesAt edgesHave ringHas regionBox regionHas relationOf
 border-once = refl
 
 pub corner-once : regionPieces (regionBox crossed) triangle ≡ 6
@@ -35,7 +35,7 @@ unfolding placeOf sumTo leastTo greatestTo sooner riseOf fallOf axisOf linesAtSt
 corner-once = refl
 
 pub centre-looked-at : (edgesHave (regionBox square) (large .coordinates) 0 4 4 ≡ false) × (bit (relationOf (regionBox square) large) 4 ≡ 1)
-unfolding placeOf anyTo sumTo leastTo greatestTo setOf sooner riseOf fallOf axisOf linesAtStart linesPast rangeAfter tileOf enterOf stepOf stateOf listOf standsIn has nextOf ringEdge stretchBox covers eastward crossesRay encloses edgesHave ringHas regionBox regionHas relationOf
+unfolding placeOf anyTo sumTo leastTo greatestTo setOf sooner riseOf fallOf axisOf linesAtStart linesPast rangeAfter tileOf enterOf stepOf stateOf listOf standsIn has nextOf ringEdge stretchBox covers eastward crossesAt enclosesAt edgesHave ringHas regionBox regionHas relationOf
 centre-looked-at = (refl, refl)
 
 -- SW is bit 6 and NE bit 2, so 64 and 4

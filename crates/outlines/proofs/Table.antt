@@ -17,7 +17,7 @@ use Rattle.ring.specs.RingBox.{stretchBox, covers}
 use Rattle.ring.specs.Repeated.{equalEnds, repeated}
 use Rattle.ring.specs.Tangled.{tangledPair, tangled}
 use Rattle.ring.specs.Turning.{clockwise}
-use Rattle.ring.specs.Centre.{eastward, crossesRay, encloses}
+use Rattle.ring.specs.Enclosed.{eastward, crossesAt, enclosesAt}
 use Rattle.ring.specs.RingTiles.{edgesHave, ringHas, ringPieces}
 use Rattle.outline.specs.Check.{shortAt, outsideIn, breaksAt, firstBreaking, shapeOf, checkOf}
 use Rattle.relation.specs.Relation.{regionBox, regionHas, relationOf, regionPieces}
@@ -32,7 +32,7 @@ abbrev pub answerTo : Row → Answer
 answerTo r = pairOf (r .first) (r .second)
 
 pub table : map answerTo rows ≡ map (λ r. r .answer) rows
-unfolding placeOf inRange anyTo sumTo firstOf leastTo greatestTo tabFrom setOf sooner riseOf fallOf axisOf linesAtStart linesPast rangeAfter tileOf enterOf stepOf stateOf listOf standsIn countIn has pieces straddles overlap ends-apart shares one-side folds nextOf ringEdge stretchBox covers equalEnds repeated tangledPair tangled clockwise eastward crossesRay encloses edgesHave ringHas ringPieces shortAt outsideIn breaksAt firstBreaking shapeOf checkOf regionBox regionHas relationOf regionPieces insert linesOf cellAt rangeOf holds cellValue matrixOf flatOf sideOf holdsFirst holdsSecond compassPlace directed directionsOf pairOf answerOf answerFor given
+unfolding placeOf inRange anyTo sumTo firstOf leastTo greatestTo tabFrom setOf sooner riseOf fallOf axisOf linesAtStart linesPast rangeAfter tileOf enterOf stepOf stateOf listOf standsIn countIn has pieces straddles overlap ends-apart shares one-side folds nextOf ringEdge stretchBox covers equalEnds repeated tangledPair tangled clockwise eastward crossesAt enclosesAt edgesHave ringHas ringPieces shortAt outsideIn breaksAt firstBreaking shapeOf checkOf regionBox regionHas relationOf regionPieces insert linesOf cellAt rangeOf holds cellValue matrixOf flatOf sideOf holdsFirst holdsSecond compassPlace directed directionsOf pairOf answerOf answerFor given
 table = refl
 
 pub words : map (λ r. aroundOf (r .answer)) rows ≡ map (λ r. r .around) rows

@@ -12,7 +12,7 @@ use Rattle.plane.specs.TileSet.{setOf, bit}
 use Rattle.plane.proofs.TileSet.{set-means}
 use Rattle.ring.specs.declared.Seen.{Seen}
 use Rattle.ring.specs.RingBox.{stretchBox, covers}
-use Rattle.ring.specs.Centre.{encloses}
+use Rattle.ring.specs.Enclosed.{encloses}
 use Rattle.ring.specs.RingTiles.{edgesHave, ringHas}
 use Rattle.ring.specs.RingSeen.{edgesSeen, ringSeen}
 use Rattle.ring.proofs.Pass.{without-centre, there-already, with-centre}
