@@ -2,7 +2,7 @@
 --   keeps-none, keeps-more, keeps-fewer    rules 1 to 0; one rule more; fewer rules
 --   Sized R           what rules 1 to 3 come to, for a pass over the rings;  sized, sized-keeps  from them and back
 --   counted-keeps, listed-keeps            rule 1, and rule 3 after 2, from what they ask
---   RegionInRange R   every ring's coordinates are in range;  in-range, in-range-keeps  what rule 4 adds, and back
+--   RegionInRange R   every ring's coordinates are in range;  in-range  as rule 4 asks
 --   broken-number     a broken rule is one of 1 to 7;  broken-ring  past rule 1, what breaks it is one of the rings
 -- Of ring r of a region that keeps rules 1 to 3:
 --   ring-order        it starts before it ends
@@ -20,7 +20,7 @@ use Rattle.ring.specs.Stretch.{Stretch}
 use Rattle.outline.specs.Region.{Region, mostRings, mostVertices, startOf, sizeOf, lastEnd}
 use Rattle.outline.specs.Rules.{Breaks, Keeps}
 use Rattle.outline.proofs.Ends.{Grown, start-le, ring-in-last}
-use Rattle.outline.proofs.Outside.{ring-in-range, inside-range}
+use Rattle.outline.proofs.Outside.{ring-in-range}
 
 pub record Sized (R : Region) : Type 0 where
   pub some : 0 < length (R .ends)
@@ -91,9 +91,6 @@ module _ {R : Region} where
   -- ---- rule 4
   pub in-range : Keeps 4 R → RegionInRange R
   in-range kept = record { at = λ r l. ring-in-range (R .coordinates) (startOf (R .ends) r) (sizeOf (R .ends) r) (λ o. kept .keeps 4 r (omega arith) (l, o)) }
-
-  pub in-range-keeps : Keeps 3 R → RegionInRange R → Keeps 4 R
-  in-range-keeps kept range = keeps-more kept (λ r b. inside-range (R .coordinates) (startOf (R .ends) r) (sizeOf (R .ends) r) (range .at r (b .0)) (b .1))
 
   pub broken-ring : (n r : ℕ) → 0 < n → Keeps n R → Breaks R (suc n) r → r < length (R .ends)
   broken-ring zero r l kept b = absurd (omega arith)

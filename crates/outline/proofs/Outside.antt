@@ -1,7 +1,6 @@
 -- Rule 4: the test of a coordinate and what it says.
---   outside-means       a coordinate
 --   outside-in-means    a stretch of vertices
---   ring-in-range       where none of a ring's coordinates lies outside, the ring is in range;  inside-range  and back
+--   ring-in-range       where none of a ring's coordinates lies outside, the ring is in range
 use mathlib.Core.Path.{_≡_, refl, ap}
 use mathlib.Core.Logic.{_↔_, _⊎_, inl, inr, ⊎-elim}
 use mathlib.Core.Bool.{Bool, true, false, not, _||_}
@@ -12,14 +11,14 @@ use lib.Dec.{leb, ltb}
 use lib.IntN.{ℤ, pos, negsuc}
 use borrow.Author.Tests.{ltb-true, ltb-false, lt-ltb, le-ltb, leb-false, lt-leb, not-true}
 use Rattle.plane.specs.Place.{inRange}
-use Rattle.plane.proofs.Logic.{never, clash, iff-join, iff-or, or-means}
+use Rattle.plane.proofs.Logic.{never, iff-join, iff-or, or-means}
 use Rattle.plane.proofs.Place.{below-means}
 use Rattle.plane.proofs.Folds.{any-means}
 use Rattle.ring.specs.Edges.{corner, RingInRange}
 use Rattle.outline.specs.Rules.{Outside, OutsideIn}
 use Rattle.outline.specs.Check.{outsideIn}
 
-pub outside-means : (z : ℤ) → (not (inRange z) ≡ true) ↔ Outside z
+outside-means : (z : ℤ) → (not (inRange z) ≡ true) ↔ Outside z
 unfolding inRange
 outside-means (pos n) = (
   λ h. inr (below-means (pos 1000000) (pos n) .0 (lt-ltb 1000000 n (leb-false n 1000000 (not-true (leb n 1000000) h)))),
@@ -61,11 +60,3 @@ ring-in-range xs from n h =
         y = not-outside ((corner xs from k) .y) (λ o. h (k, l, inr o));
       };
     }
-
-pub inside-range : (xs : List ℤ) (from n : ℕ) → RingInRange xs from n → OutsideIn xs from n → ⊥
-inside-range xs from n range o =
-    let p = range .at (o .0) (o .1) in
-    ⊎-elim (inside _ (p .x)) (inside _ (p .y)) (o .2)
-  where
-    inside : (z : ℤ) → inRange z ≡ true → Outside z → ⊥
-    inside z h o = clash (inRange z) h (not-true (inRange z) (outside-means z .1 o))

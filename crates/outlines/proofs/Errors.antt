@@ -1,8 +1,9 @@
--- Document 01, "Errors a trained hand makes", each shut out by the definitions.
+-- Document 01, "Errors a trained hand makes", shut out by the definitions.
 --   border-once       an edge on a border line counts for one tile: outline 7 has no B
 --   corner-once       a corner crossed by an edge cuts it once: outline 5 has 6 pieces, not 7
 --   centre-looked-at  not only edges are looked at: outline 6 has B, which none of its edges has
 --   gaps-kept         gap columns and rows are kept: the matrices of outlines 3 and 4 differ
+-- The fifth, a column left old on replacement, is shut out by a law of the sheet's layout.
 use mathlib.Core.Path.{_≡_, refl, ap}
 use mathlib.Core.Bool.{false}
 use mathlib.Core.List.{List}

@@ -1,5 +1,5 @@
 -- What is read of a card lies in it.
---   length-ends, length-numbers    how many ring ends and coordinates parcel k has
+--   length-ends                    how many ring ends parcel k has
 --   ends-read, numbers-read        its ends and coordinates, as they were read to the front of a list
 --   low-word, low-last             a number of two bytes is small, and so is a last end
 --   entry-there       every parcel entry is there, where rule 14 is kept
@@ -35,7 +35,7 @@ pub length-ends : (b : List ℕ) (k : ℕ) → length (endsAt b k) ≡ countAt b
 unfolding endsAt
 length-ends b k = length-tab _ (countAt b k)
 
-pub length-numbers : (b : List ℕ) (k : ℕ) → length (numbersAt b k) ≡ 2 * lastEnd (endsAt b k)
+length-numbers : (b : List ℕ) (k : ℕ) → length (numbersAt b k) ≡ 2 * lastEnd (endsAt b k)
 unfolding numbersAt
 length-numbers b k = length-tab _ (2 * lastEnd (endsAt b k))
 
