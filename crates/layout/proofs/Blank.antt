@@ -2,7 +2,7 @@
 --   blank-layout    it is the layout of nothing
 --   blank-zeros     and what a sheet of the right lengths becomes where every number is set to 0
 use mathlib.Core.Path.{_≡_, refl, _∙_}
-use mathlib.Core.List.{List, []}
+use mathlib.Core.List.{[]}
 use Prim.Native.Nat.{ℕ, zero, suc, _%_}
 use lib.IntN.{pos}
 use lib.ListN.{length, replicate, length-replicate, getD-replicate}

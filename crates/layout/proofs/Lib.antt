@@ -7,6 +7,7 @@ pub mod Undamaged
 pub mod SlotTests
 pub mod Refusing
 pub mod Written
+pub mod Renewed
 pub mod Standing
 pub mod Blank
 pub mod SlotCells

@@ -3,43 +3,37 @@
 --                          sheet is undamaged
 --   whole-means            a call on the whole sheet is not refused exactly where the lists have their lengths and it is undamaged
 --   change-is, whole-is    the two numbers, by the tests that decide them
-use mathlib.Core.Path.{_≡_, refl, sym}
-use mathlib.Core.Logic.{_↔_, _≢_}
-use mathlib.Core.Bool.{Bool, true, false}
+use mathlib.Core.Path.{_≡_, refl}
+use mathlib.Core.Logic.{_↔_}
+use mathlib.Core.Bool.{Bool}
 use Prim.Native.Nat.{ℕ, _≤_, _<_}
 use native.Mathlib.Omega.{arith}
 use lib.Dec.{ltb}
 use borrow.Author.Tests.{ltb-false, le-ltb}
-use Rattle.plane.proofs.Logic.{never}
-use Rattle.outline.specs.Refusals.{Refusal, number, numberIf, orElse, slot-number, sheet-lists, sheet-damaged}
-use Rattle.outline.proofs.OrElse.{or-else-none}
+use Rattle.outline.specs.Refusals.{numberIf, orElse, slot-number, sheet-lists, sheet-damaged}
+use Rattle.outline.proofs.OrElse.{or-else-none, number-if-none}
 use Rattle.layout.specs.Sheet.{Sheet, slots, lastSlot, RightLists, wrongLists}
 use Rattle.layout.specs.Damage.{Undamaged, damaged}
 use Rattle.layout.specs.Changes.{changeNumber, wholeNumber, Changeable}
 use Rattle.layout.proofs.RightLists.{lists-mean}
 use Rattle.layout.proofs.Undamaged.{undamaged-means}
 
--- a number that a test decides
-pub unless : (t : Bool) (k : Refusal) → number k ≢ 0 → (numberIf t k ≡ 0) ↔ (t ≡ false)
-unless true k some = (λ e. absurd (some e), λ e. never (sym e))
-unless false k some = (λ e. refl, λ e. refl)
-
 module _ (s : Sheet) where
   lists-right : (numberIf (wrongLists s) sheet-lists ≡ 0) ↔ RightLists s
   lists-right =
-      let a = unless (wrongLists s) sheet-lists (λ e. omega arith) in
+      let a = number-if-none (wrongLists s) sheet-lists in
       let b = lists-mean s in
       (λ h. b .0 (a .0 h), λ h. a .1 (b .1 h))
 
   no-damage : RightLists s → (numberIf (damaged s) sheet-damaged ≡ 0) ↔ Undamaged s
   no-damage right =
-      let a = unless (damaged s) sheet-damaged (λ e. omega arith) in
+      let a = number-if-none (damaged s) sheet-damaged in
       let b = undamaged-means s right in
       (λ h. b .0 (a .0 h), λ h. a .1 (b .1 h))
 
   slot-there : (i : ℕ) → (numberIf (ltb lastSlot i) slot-number ≡ 0) ↔ (i < slots)
   slot-there i =
-      let a = unless (ltb lastSlot i) slot-number (λ e. omega arith) in
+      let a = number-if-none (ltb lastSlot i) slot-number in
       (λ h. let l : i ≤ lastSlot = ltb-false lastSlot i (a .0 h) in omega arith, λ h. a .1 (le-ltb lastSlot i (omega arith)))
 
   pub whole-means : (wholeNumber s ≡ 0) ↔ (RightLists s × Undamaged s)

@@ -1,15 +1,15 @@
 -- The layout of what stands, where it may stand together.
 --   layout-lists       its lists have their lengths
---   layout-parcel      what stands in a slot is read back
+--   layout-parcel      what stands in a slot is read back;  layout-empty  and whether anything does
 --   layout-undamaged   it is undamaged
 --   layout-change      only a slot number above the last refuses a change of it;  layout-whole  nothing refuses a call on the whole of it
 --   layout-with        a parcel that comes into slot i of a layout gives the layout with that parcel in slot i
 --   layout-same        a layout hangs on the slots alone
 --   layout-cell        a cell of a layout is that of the two parcels
---   stand-fewer        what may stand and keeps rules 1 to n may stand and keeps fewer;  stand-instead  one parcel may be replaced
+--   stand-fewer, stand-instead, stand-same    what may stand together still may, with fewer rules, one parcel replaced, the same in each slot
 --   parcels-fit, rings-fit, vertices-fit    how many parcels and rings can stand, and that the list has room for all their vertices
 use mathlib.Core.Path.{_≡_, refl, sym, ap, ap₂, _∙_, subst}
-use mathlib.Core.Bool.{Bool, true, false, _||_}
+use mathlib.Core.Bool.{Bool, true, false, not, _||_}
 use Prim.Native.Nat.{ℕ, _+_, _*_, _/_, _%_, _<_, _≤_}
 use native.Mathlib.Omega.{arith}
 use lib.Dec.{ltb, eqb}
@@ -22,15 +22,15 @@ use Rattle.plane.proofs.Lists.{length-tab, getD-tab, tab-same}
 use Rattle.outline.specs.Region.{Parcel, nothing, outline, mostRings, mostVertices, lastEnd}
 use Rattle.outline.specs.Refusals.{numberIf, orElse, slot-number, sheet-lists, sheet-damaged}
 use Rattle.outline.proofs.Keeps.{keeps-fewer}
-use Rattle.layout.specs.Sheet.{sheetOf, slots, lastSlot, room, recordLength, coordinatesLength, recordsLength, relationsLength, RightLists, wrongLists}
+use Rattle.layout.specs.Sheet.{sheetOf, slots, lastSlot, room, recordLength, coordinatesLength, recordsLength, relationsLength, RightLists}
 use Rattle.layout.specs.Standing.{occupied, endList, coordinateList, instead, ParcelKeeps, StandTogether, parcelsBelow, ringsBelow, verticesBelow}
 use Rattle.layout.specs.Layout.{recordNumber, cellOf, layout}
-use Rattle.layout.specs.Slots.{parcelAt, cellIn}
-use Rattle.layout.specs.Damage.{Undamaged, damaged}
+use Rattle.layout.specs.Slots.{emptyIn, parcelAt, cellIn}
+use Rattle.layout.specs.Damage.{Undamaged}
 use Rattle.layout.specs.Changes.{withParcel, changeNumber, wholeNumber}
 use Rattle.layout.proofs.Blocks.{block-read}
 use Rattle.layout.proofs.RightLists.{lists-mean}
-use Rattle.layout.proofs.Slots.{few-rings, few-vertices, Lies, rings-read, parcel-read}
+use Rattle.layout.proofs.Slots.{few-rings, few-vertices, occupied-in, Lies, rings-read, parcel-read}
 use Rattle.layout.proofs.Undamaged.{slot-lists, undamaged-means}
 use Rattle.layout.proofs.Refusing.{whole-means, change-is}
 
@@ -48,6 +48,9 @@ stand-instead {n} {st} i p kept stand = record { each = λ k h. go k h (eqb k i)
     go : (k : ℕ) → k < slots → (t : Bool) → ParcelKeeps n (pick t p (st k))
     go k h true = kept
     go k h false = stand .each k h
+
+pub stand-same : {n : ℕ} (st su : ℕ → Parcel) → ((i : ℕ) → i < slots → st i ≡ su i) → StandTogether n st → StandTogether n su
+stand-same {n} st su h stand = record { each = λ i l. subst (ParcelKeeps n) (h i l) (stand .each i l) }
 
 module _ (st : ℕ → Parcel) (stand : StandTogether 4 st) where
   pub parcels-fit : parcelsBelow st slots ≤ slots
@@ -96,6 +99,14 @@ module _ (st : ℕ → Parcel) (stand : StandTogether 4 st) where
 
   pub layout-parcel : (i : ℕ) → i < slots → parcelAt (layout st) i ≡ st i
   layout-parcel i il = parcel-read (layout st) i (slot-lists (layout st) layout-lists) il (st i) (stand .each i il) (lies i il)
+
+  pub layout-empty : (i : ℕ) → i < slots → emptyIn ((layout st) .records) i ≡ not (occupied (st i))
+  layout-empty i il =
+      twice (emptyIn ((layout st) .records) i) ∙ ap not (sym (occupied-in ((layout st) .coordinates) ((layout st) .records) i) ∙ ap occupied (layout-parcel i il))
+    where
+      twice : (t : Bool) → t ≡ not (not t)
+      twice true = refl
+      twice false = refl
 
   pub layout-undamaged : Undamaged (layout st)
   layout-undamaged =

@@ -3,7 +3,7 @@
 --   ends-few         the ring ends that are written are few
 --   whole-written    once the room and the record are written, the slots may be read
 --   written          once the row and the column are written too, it is the sheet with that parcel in its slot
-use mathlib.Core.Path.{_≡_, refl, sym, ap, ap₂, _∙_, subst₂}
+use mathlib.Core.Path.{_≡_, refl, sym, ap₂, _∙_, subst₂}
 use mathlib.Core.Bool.{Bool, true, false, _&&_, _||_}
 use mathlib.Core.List.{List, []}
 use Prim.Native.Nat.{ℕ, _+_, _*_, _/_, _%_, _<_, _≤_}
@@ -20,7 +20,7 @@ use Rattle.plane.proofs.Logic.{and-means}
 use Rattle.plane.proofs.Lists.{tab-same}
 use Rattle.outline.specs.Region.{Region, Parcel, nothing, outline, mostRings}
 use Rattle.outline.specs.Rules.{Keeps}
-use Rattle.layout.specs.Sheet.{Sheet, sheetOf, slots, room, recordLength, coordinatesLength, recordsLength, relationsLength}
+use Rattle.layout.specs.Sheet.{Sheet, sheetOf, slots, room, recordLength, relationsLength}
 use Rattle.layout.specs.Standing.{endList, coordinateList, instead}
 use Rattle.layout.specs.Layout.{recordNumber, cellOf}
 use Rattle.layout.specs.Slots.{inSlot, parcelAt}

@@ -2,31 +2,30 @@
 --   undamaged-at      a slot is undamaged exactly where its ring count is at most 8 and what stands there keeps rules 1 to 4
 --   undamaged-means   the tests of rule 12 find nothing exactly where the sheet is undamaged in the document's words
 --   undamaged-stand   what stands on an undamaged sheet may stand;  undamaged-whole  and may be read
-use mathlib.Core.Path.{_≡_, refl, sym, ap, _∙_, subst}
-use mathlib.Core.Logic.{_↔_, _≢_, ⊎-elim}
+use mathlib.Core.Path.{_≡_, refl, sym, subst}
+use mathlib.Core.Logic.{_↔_}
 use mathlib.Core.Bool.{Bool, true, false, not, _&&_, _||_}
 use mathlib.Core.List.{List}
-use Prim.Native.Nat.{ℕ, zero, suc, _+_, _*_, _<_, _≤_}
+use Prim.Native.Nat.{ℕ, suc, _<_, _≤_}
 use native.Mathlib.Omega.{arith}
 use native.Mathlib.Decide.{decLt}
-use lib.Dec.{ltb, eqb}
+use lib.Dec.{ltb}
 use lib.IntN.{ℤ}
 use lib.ListN.{length}
 use borrow.Author.Tests.{ltb-false, le-ltb, eqb-false}
-use Rattle.plane.specs.Choice.{pick}
 use Rattle.plane.specs.Folds.{anyTo}
 use Rattle.plane.proofs.Logic.{never, clash, is-false}
 use Rattle.plane.proofs.Folds.{any-means, any-none}
-use Rattle.outline.specs.Region.{Region, Parcel, nothing, outline, mostRings, lastEnd}
-use Rattle.outline.specs.Rules.{Breaks, Keeps}
+use Rattle.outline.specs.Region.{Region, mostRings}
+use Rattle.outline.specs.Rules.{Keeps}
 use Rattle.outline.specs.Check.{breaksAt}
 use Rattle.outline.proofs.Keeps.{keeps-more, keeps-fewer, counted-keeps, broken-ring}
 use Rattle.outline.proofs.Tests.{breaks-means, keeps-passes}
 use Rattle.layout.specs.Sheet.{Sheet, slots, RightLists}
 use Rattle.layout.specs.Standing.{ParcelKeeps, StandTogether}
-use Rattle.layout.specs.Slots.{ringsIn, emptyIn, endsIn, regionIn, inSlot, parcelAt}
+use Rattle.layout.specs.Slots.{ringsIn, emptyIn, regionIn, inSlot, parcelAt}
 use Rattle.layout.specs.Damage.{Undamaged, breaksRule, damagedAt, damaged}
-use Rattle.layout.specs.Steps.{SlotLists, Counted, Outlined, Whole}
+use Rattle.layout.specs.Steps.{SlotLists, Counted, Whole}
 use Rattle.layout.proofs.Slots.{few-vertices, parcel-empty, parcel-there, ends-in, rings-length}
 
 none-any : (f : ℕ → Bool) (n i : ℕ) → anyTo f n ≡ false → i < n → f i ≡ false

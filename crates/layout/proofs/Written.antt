@@ -3,9 +3,8 @@
 --   with-touches       it differs from s only in the room, the record, the row and the column of slot i;  touches-none  as s itself does
 --   parcel-standing    p stands in slot i, and in every other slot what stood there
 --   with-undamaged     it is undamaged
---   row-renewed, column-renewed    the cells of slot i are those of what then stands, also on a sheet that others have written
 use mathlib.Core.Path.{_≡_, refl, sym, ap, _∙_, subst}
-use mathlib.Core.Logic.{_≢_, inl, inr}
+use mathlib.Core.Logic.{_≢_}
 use mathlib.Core.Bool.{Bool, true, false, _||_}
 use mathlib.Core.List.{List}
 use Prim.Native.Nat.{ℕ, _+_, _*_, _/_, _%_, _<_, _≤_}
@@ -17,13 +16,12 @@ use lib.ListN.{length, getD, List·getD-eq-default}
 use borrow.Author.Tests.{eq-eqb, ne-eqb}
 use Rattle.plane.specs.Choice.{pick}
 use Rattle.plane.specs.Lists.{tab}
-use Rattle.plane.proofs.Logic.{or-means}
 use Rattle.plane.proofs.Lists.{length-tab, getD-tab}
-use Rattle.outline.specs.Region.{Region, Parcel, outline, mostRings}
+use Rattle.outline.specs.Region.{Parcel, mostRings}
 use Rattle.layout.specs.Sheet.{Sheet, slots, room, recordLength, coordinatesLength, recordsLength, relationsLength, RightLists}
 use Rattle.layout.specs.Standing.{endList, coordinateList, instead, ParcelKeeps}
 use Rattle.layout.specs.Layout.{recordNumber, cellOf}
-use Rattle.layout.specs.Slots.{ringsIn, parcelAt, cellIn}
+use Rattle.layout.specs.Slots.{ringsIn, parcelAt}
 use Rattle.layout.specs.Damage.{Undamaged}
 use Rattle.layout.specs.Changes.{withParcel, TouchesOnly}
 use Rattle.layout.specs.Steps.{Ready}
@@ -54,26 +52,6 @@ module _ (s : Sheet) (i : ℕ) (p : Parcel) where
   pub with-lists : RightLists (withParcel s i p)
   unfolding withParcel
   with-lists = record { coordinate-list = length-tab _ coordinatesLength; record-list = length-tab _ recordsLength; relation-list = length-tab _ relationsLength }
-
-  -- ---- the cells
-  cell-renewed : (m n : ℕ) → m < slots → n < slots → eqb m i || eqb n i ≡ true
-      → cellIn ((withParcel s i p) .relations) m n ≡ cellOf (instead (parcelAt s) i p m) (instead (parcelAt s) i p n) (eqb m n)
-  unfolding withParcel cellIn
-  cell-renewed m n hm hn t =
-      let d : (slots * m + n) / slots ≡ m = omega arith in
-      let r : (slots * m + n) % slots ≡ n = omega arith in
-      getD-tab _ 0 relationsLength (slots * m + n) (omega arith) ∙ rw (d, r, t) refl
-
-  own : instead (parcelAt s) i p i ≡ p
-  own = simp (eq-eqb i i refl)
-
-  pub row-renewed : (k : ℕ) → i < slots → k < slots → cellIn ((withParcel s i p) .relations) i k ≡ cellOf p (instead (parcelAt s) i p k) (eqb i k)
-  row-renewed k il kl =
-      cell-renewed i k il kl (or-means (eqb i i) (eqb k i) .1 (inl (eq-eqb i i refl))) ∙ ap (λ (q : Parcel). cellOf q (instead (parcelAt s) i p k) (eqb i k)) own
-
-  pub column-renewed : (k : ℕ) → i < slots → k < slots → cellIn ((withParcel s i p) .relations) k i ≡ cellOf (instead (parcelAt s) i p k) p (eqb k i)
-  column-renewed k il kl =
-      cell-renewed k i kl il (or-means (eqb k i) (eqb i i) .1 (inr (eq-eqb i i refl))) ∙ ap (λ (q : Parcel). cellOf (instead (parcelAt s) i p k) q (eqb k i)) own
 
   -- ---- the slot's own numbers, and all others
   with-lies : i < slots → Lies (withParcel s i p) i p

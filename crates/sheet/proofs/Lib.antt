@@ -1,4 +1,5 @@
 pub mod Numbers
 pub mod Frame
 pub mod Readings
+pub mod Layouts
 pub mod Only

@@ -1,9 +1,9 @@
 -- The numbers that a put, a removal and a clearing answer, and the sheet that each leaves.
 --   accepted-number       the check of a region answers no number exactly where it keeps every rule
 --   put-first, put-next, remove-first, remove-next    the number in two steps: 11, 8 and 12, then the call's own
---   put-ready, put-writes, remove-ready     what is known where the call is not refused
+--   put-keeps, put-ready, put-writes, remove-ready    what is known where the call is not refused
 --   put-refused, remove-refused, clear-refused    a refused call leaves the sheet
---   put-done, remove-done, clear-done       and what one that is not refused leaves
+--   put-is, put-done, remove-done, clear-done     and what one that is not refused leaves
 use mathlib.Core.Path.{_≡_, refl, sym, ap, _∙_, subst}
 use mathlib.Core.Logic.{_↔_, _≢_}
 use mathlib.Core.Bool.{Bool, true, false}
@@ -39,9 +39,12 @@ accepted-number R = (λ z. go (checkOf R) refl z, λ k. ap numberOf (accepted-me
 -- ---- a put
 module _ (s : Sheet) (i : ℕ) (R : Region) where
   module _ (z : putNumber s i R ≡ 0) where
-    four : Keeps 4 R
+    pub put-keeps : KeepsRules R
     unfolding putNumber
-    four = keeps-fewer (omega arith) (accepted-number R .0 (or-else-none (changeNumber s i) (numberOf (checkOf R)) .0 z .1))
+    put-keeps = accepted-number R .0 (or-else-none (changeNumber s i) (numberOf (checkOf R)) .0 z .1)
+
+    four : Keeps 4 R
+    four = keeps-fewer (omega arith) put-keeps
 
     pub put-ready : Ready s i (outline R)
     unfolding putNumber
@@ -50,9 +53,12 @@ module _ (s : Sheet) (i : ℕ) (R : Region) where
     pub put-writes : Ready s i (parcelOf R)
     put-writes = subst (Ready s i) (sym (outline-parcel R four)) put-ready
 
-    pub put-done : {t : Sheet} → t ≡ withParcel s i (parcelOf R) → t ≡ put s i R
+    pub put-is : put s i R ≡ withParcel s i (outline R)
     unfolding put
-    put-done e = simp (eq-eqb (putNumber s i R) 0 z) (e ∙ ap (withParcel s i) (outline-parcel R four))
+    put-is = simp (eq-eqb (putNumber s i R) 0 z)
+
+    pub put-done : {t : Sheet} → t ≡ withParcel s i (parcelOf R) → t ≡ put s i R
+    put-done e = e ∙ ap (withParcel s i) (outline-parcel R four) ∙ sym put-is
 
   pub put-first : changeNumber s i ≢ 0 → changeNumber s i ≡ putNumber s i R
   unfolding putNumber

@@ -22,10 +22,9 @@ use Rattle.plane.specs.Folds.{sumTo}
 use Rattle.plane.specs.TileSet.{bit}
 use Rattle.plane.proofs.Logic.{clash, is-false, or-means}
 use Rattle.outline.specs.Refusals.{numberIf, orElse, slot-number, slot-empty, sheet-lists}
-use Rattle.outline.proofs.OrElse.{or-else-none}
+use Rattle.outline.proofs.OrElse.{or-else-none, number-if-none}
 use Rattle.layout.specs.Sheet.{slots, lastSlot, wrongTables}
-use Rattle.layout.specs.Slots.{emptyIn, cellIn, rowIn}
-use Rattle.layout.proofs.Refusing.{unless}
+use Rattle.layout.specs.Slots.{emptyIn, cellIn}
 use Rattle.layout.proofs.Rows.{row-length}
 use Rattle.sheet.specs.declared.Reading.the-variants.{Relation, Refused}
 use Rattle.sheet.specs.Readings.{readNumber, readingOf, readingNumber, readingValue, rowOf}
@@ -53,20 +52,20 @@ module _ (records relations : List ℕ) (i j : ℕ) where
   read-means = (
     λ z. let p = first .0 z in
         let q = second .0 (p .1) in
-        let low = neither (ltb lastSlot i) (ltb lastSlot j) .0 (unless _ slot-number (λ e. omega arith) .0 (q .0)) in
-        let there = neither (emptyIn records i) (emptyIn records j) .0 (unless _ slot-empty (λ e. omega arith) .0 (q .1)) in
+        let low = neither (ltb lastSlot i) (ltb lastSlot j) .0 (number-if-none _ slot-number .0 (q .0)) in
+        let there = neither (emptyIn records i) (emptyIn records j) .0 (number-if-none _ slot-empty .0 (q .1)) in
         record {
-          tables = unless _ sheet-lists (λ e. omega arith) .0 (p .0);
+          tables = number-if-none _ sheet-lists .0 (p .0);
           primary = slot-in i .0 (low .0);
           reference = slot-in j .0 (low .1);
           primary-there = there .0;
           reference-there = there .1;
         },
     λ h. first .1 (
-      unless _ sheet-lists (λ e. omega arith) .1 (h .tables),
+      number-if-none _ sheet-lists .1 (h .tables),
       second .1 (
-        unless _ slot-number (λ e. omega arith) .1 (neither (ltb lastSlot i) (ltb lastSlot j) .1 (slot-in i .1 (h .primary), slot-in j .1 (h .reference))),
-        unless _ slot-empty (λ e. omega arith) .1 (neither (emptyIn records i) (emptyIn records j) .1 (h .primary-there, h .reference-there)),
+        number-if-none _ slot-number .1 (neither (ltb lastSlot i) (ltb lastSlot j) .1 (slot-in i .1 (h .primary), slot-in j .1 (h .reference))),
+        number-if-none _ slot-empty .1 (neither (emptyIn records i) (emptyIn records j) .1 (h .primary-there, h .reference-there)),
       ),
     ),
   )

@@ -1,4 +1,4 @@
-use mathlib.Core.Path.{_≡_, sym, ap, ap₂, _∙_, subst}
+use mathlib.Core.Path.{_≡_, sym, ap₂, _∙_, subst}
 use mathlib.Core.Bool.{false}
 use Rattle.outline.specs.Region.{Region, regionOf}
 use Rattle.outline.specs.Rules.{Keeps}

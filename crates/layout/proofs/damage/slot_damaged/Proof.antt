@@ -3,7 +3,6 @@ use mathlib.Core.List.{List}
 use Prim.Native.Nat.{ℕ, _≤_}
 use native.Mathlib.Omega.{arith}
 use lib.Dec.{ltb}
-use lib.IntN.{ℤ}
 use lib.ListN.{length}
 use Rattle.plane.specs.Folds.{firstOf}
 use Rattle.outline.specs.Region.{Region, regionOf, mostVertices, lastEnd}
