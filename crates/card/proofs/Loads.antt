@@ -1,18 +1,22 @@
 -- A card loads exactly when the sheet's lists have their lengths and the card is good.
 use mathlib.Core.Path.{_≡_}
 use mathlib.Core.Logic.{_↔_}
-use mathlib.Core.Bool.{false}
 use mathlib.Core.List.{List}
 use Prim.Native.Nat.{ℕ}
-use native.Mathlib.Omega.{arith}
-use Rattle.slots.specs.Layout.{Sheet}
-use Rattle.slots.specs.Slots.{wrongLists}
+use Rattle.outline.specs.Refusals.{numberIf, sheet-lists}
+use Rattle.outline.proofs.OrElse.{or-else-none, number-if-none}
+use Rattle.layout.specs.Sheet.{Sheet, RightLists, wrongLists}
+use Rattle.layout.proofs.RightLists.{lists-mean}
 use Rattle.parcels.specs.Good.{GoodCard}
 use Rattle.parcels.specs.CardNumber.{cardNumber}
+use Rattle.parcels.proofs.Good.{good-means}
 use Rattle.card.specs.Load.{loadNumber}
-use Rattle.parcels.proofs.Good.{past}
-use Rattle.parcels.proofs.GoodMeans.{good-means}
 
-pub loads-exactly : (s : Sheet) (b : List ℕ) → (loadNumber s b ≡ 0) ↔ ((wrongLists s ≡ false) × GoodCard b)
+pub loads-exactly : (s : Sheet) (b : List ℕ) → (loadNumber s b ≡ 0) ↔ (RightLists s × GoodCard b)
 unfolding loadNumber
-loads-exactly s b = (λ e. let p = past (wrongLists s) 11 (cardNumber b) (omega arith) e in (p .0, good-means b .0 (p .1)), λ g. rw (g .0) (good-means b .1 (g .1)))
+loads-exactly s b =
+    let n = or-else-none (numberIf (wrongLists s) sheet-lists) (cardNumber b) in
+    let w = number-if-none (wrongLists s) sheet-lists in (
+      λ e. let p = n .0 e in (lists-mean s .0 (w .0 (p .0)), good-means b .0 (p .1)),
+      λ g. n .1 (w .1 (lists-mean s .1 (g .0)), good-means b .1 (g .1)),
+    )

@@ -3,7 +3,7 @@
 --   write-only         number and length, and the buffer
 use mathlib.Core.Path.{_≡_, sym, _∙_}
 use Prim.Native.Nat.{ℕ}
-use Rattle.slots.specs.Layout.{sheetOf}
+use Rattle.layout.specs.Sheet.{sheetOf}
 use Rattle.card.specs.declared.Written.{Written}
 use Rattle.card.proofs.load.Reads as load-reads
 use Rattle.card.proofs.write.Reads as write-reads

@@ -1,117 +1,121 @@
--- The parts of a card, one behind the other.
---   totals-le       the totals of an undamaged sheet are those that a header may count
+-- A card, written part after part, and the call that writes it.
+--   totals-le       the totals are those that a header may count
 --   card-size       the card's length, by the totals;  card-room  and by its parts
 --   card-steps      the header, the entries, the ring ends and the vertices, stored one after the other: the card
---   write-refused-lists, write-refused-damaged, write-refused-short, write-done     what writing answers, and the buffer at exit
+--   write-refused, write-short, write-done     what writing answers, and the buffer at exit
 use mathlib.Core.Path.{_≡_, refl, sym, _∙_, ap}
-use mathlib.Core.Bool.{true, false}
-use mathlib.Core.List.{List, [], _∷_, _++_}
+use mathlib.Core.Logic.{_≢_}
+use mathlib.Core.Bool.{Bool}
+use mathlib.Core.List.{List, _++_}
 use Prim.Native.Nat.{ℕ, _+_, _≤_, _<_}
 use native.Mathlib.Omega.{arith}
+use lib.Dec.{ltb}
 use lib.IntN.{ℤ}
 use lib.ListN.{length}
-use borrow.Author.Tests.{lt-ltb, le-ltb}
-use Rattle.plane.proofs.Folds.{sum-le}
-use Rattle.outline.specs.Region.{lastEnd}
-use Rattle.slots.specs.Layout.{Sheet, sheetOf, Parcel, slots}
-use Rattle.slots.specs.Slots.{countOf, endsOf, parcelAt, damaged, wrongLists}
-use Rattle.slots.specs.Steps.{slotsOf}
+use borrow.Author.Tests.{lt-ltb, le-ltb, ne-eqb}
+use Rattle.outline.specs.Region.{Parcel}
+use Rattle.outline.specs.Refusals.{numberIf, buffer-short}
+use Rattle.outline.proofs.OrElse.{or-else-first, or-else-next}
+use Rattle.layout.specs.Sheet.{Sheet, slots}
+use Rattle.layout.specs.Standing.{StandTogether, parcelsBelow, ringsBelow, verticesBelow}
+use Rattle.layout.specs.Slots.{inSlot, parcelAt}
+use Rattle.layout.specs.Changes.{wholeNumber}
+use Rattle.layout.specs.Steps.{Whole}
+use Rattle.layout.proofs.Standing.{parcels-fit, rings-fit, vertices-fit}
+use Rattle.endian.specs.Bytes.{joined}
+use Rattle.endian.specs.Placed.{placed, wordBytes}
+use Rattle.endian.proofs.Placed.{placed-append, placed-whole}
+use Rattle.parcels.specs.Layout.{cardParcels, cardRings, cardVertices, parcelsAt, lengthOf}
 use Rattle.card.specs.declared.Written.{Written}
 use Rattle.card.specs.declared.Totals.{Totals}
-use Rattle.endian.specs.Bytes.{u16Bytes, joined}
-use Rattle.parcels.specs.Layout.{parcelsAt, ringsAt, verticesAt, lengthOf}
-use Rattle.card.specs.Write.{entryBytes, endBytes, parcelTotal, ringTotal, vertexTotal, cardOf, writeNumber, written, write}
-use Rattle.endian.specs.Placed.{placed, wordBytes}
-use Rattle.card.specs.Steps.{Counted, stood, totalsOf, headerOf, entriesTo, endsTo, verticesTo}
-use Rattle.endian.proofs.Placed.{placed-append, placed-whole}
-use Rattle.card.proofs.Parts.{entry-bytes, end-bytes, stood-le, totals-are}
-use Rattle.endian.proofs.Joined.{joined-same}
-use Rattle.card.proofs.Lengths.{written-length, entries-length, ends-length, vertices-length}
+use Rattle.card.specs.Write.{headerOf, entryPart, endPart, vertexPart, cardOf, writeNumber, written, write}
+use Rattle.card.specs.Steps.{totalsOf, entriesOf, endsOf, verticesOf}
+use Rattle.card.proofs.Lengths.{entries-length, ends-length, vertices-length, written-length}
+use Rattle.card.proofs.Parts.{TotalsAre, totals-are, entries-are, ends-are, vertices-are}
 
-pub totals-le : (records : List ℕ) → Counted records → (totalsOf records .parcels ≤ 32) × (totalsOf records .rings ≤ 256) × (totalsOf records .vertices ≤ 2048)
-unfolding totalsOf
-totals-le records few = (
-  omega (arith, sum-le (λ i. stood (countOf (slotsOf [] records) i)) slots 1 (λ i l. stood-le (countOf (slotsOf [] records) i))),
-  omega (arith, sum-le (λ i. countOf (slotsOf [] records) i) slots 8 (λ i l. few .few i l)),
-  omega (arith, sum-le (λ i. lastEnd (endsOf (slotsOf [] records) i)) slots 64 (λ i l. few .low i l)),
-)
-
-module _ (xs : List ℤ) (records : List ℕ) (few : Counted records) where
-  abbrev bare : ℕ → Parcel
-  bare = parcelAt (slotsOf [] records)
-
+module _ (xs : List ℤ) (records : List ℕ) (whole : Whole xs records) where
   abbrev st : ℕ → Parcel
-  st = parcelAt (slotsOf xs records)
+  st = inSlot xs records
 
-  entries-same : entriesTo bare slots ≡ entriesTo st slots
-  entries-same = joined-same (λ i. entryBytes i (bare i)) (λ i. entryBytes i (st i)) slots (λ i l. entry-bytes [] records i few l ∙ sym (entry-bytes xs records i few l))
+  stand : StandTogether 4 st
+  stand = record { each = whole .keeps }
 
-  ends-same : endsTo bare slots ≡ endsTo st slots
-  ends-same = joined-same (λ i. endBytes (bare i)) (λ i. endBytes (st i)) slots (λ i l. end-bytes [] records i ∙ sym (end-bytes xs records i))
+  module _ (t : Totals) (counted : t ≡ totalsOf records) where
+    are : TotalsAre xs records whole t
+    are = totals-are xs records whole counted
 
-  pub card-size : length (cardOf st) ≡ lengthOf (totalsOf records .parcels) (totalsOf records .rings) (totalsOf records .vertices)
-  card-size =
-      let t = totals-are xs records [] few in
-      written-length st ∙ λ d. lengthOf (t .0 d) (t .1 d) (t .2 d)
+    pub totals-le : (t .parcels ≤ cardParcels) × (t .rings ≤ cardRings) × (t .vertices ≤ cardVertices)
+    totals-le = (
+      omega (arith, are .parcels-are, parcels-fit st stand),
+      omega (arith, are .rings-are, rings-fit st stand),
+      omega (arith, are .vertices-are, vertices-fit st stand),
+    )
 
-  pub card-room : length (cardOf st) ≡ 12 + length (entriesTo bare slots) + length (endsTo bare slots) + length (verticesTo st slots)
-  card-room = omega (arith, written-length st, entries-length st, ends-length st, vertices-length st, ap length entries-same, ap length ends-same)
+    pub card-size : lengthOf (t .parcels) (t .rings) (t .vertices) ≡ length (cardOf st)
+    card-size = (λ d. lengthOf (are .parcels-are d) (are .rings-are d) (are .vertices-are d)) ∙ sym (written-length st)
 
-  split : (p r v : ℕ) → parcelTotal st ≡ p → ringTotal st ≡ r → vertexTotal st ≡ v
-      → cardOf st ≡ wordBytes (p ∷ r ∷ v ∷ parcelsAt ∷ ringsAt p ∷ verticesAt p r ∷ []) 6 ++ (entriesTo st slots ++ (endsTo st slots ++ verticesTo st slots))
-  unfolding cardOf joined
-  split p r v ep er ev = λ d.
-      u16Bytes (ep d) ++ (u16Bytes (er d) ++ (u16Bytes (ev d) ++ (u16Bytes parcelsAt ++ (u16Bytes (ringsAt (ep d)) ++ (u16Bytes (verticesAt (ep d) (er d))
-      ++ (entriesTo st slots ++ (endsTo st slots ++ verticesTo st slots)))))))
+    pub card-steps : (b : List ℕ) {b1 b2 b3 b4 : List ℕ} {r v : ℕ} → b1 ≡ placed b 0 (wordBytes (headerOf (t .parcels) (t .rings) (t .vertices)) 6)
+        → r ≡ parcelsAt + length (entriesOf records) → b2 ≡ placed b1 parcelsAt (entriesOf records)
+        → v ≡ r + length (endsOf records) → b3 ≡ placed b2 r (endsOf records)
+        → b4 ≡ placed b3 v (verticesOf xs records) → b4 ≡ placed b 0 (cardOf st)
+    unfolding cardOf joined
+    card-steps b {b1} {b2} {b3} {b4} {r} {v} e1 er e2 ev e3 e4 =
+        let h = wordBytes (headerOf (parcelsBelow st slots) (ringsBelow st slots) (verticesBelow st slots)) 6 in
+        let e = entryPart st slots in
+        let n = endPart st slots in
+        let x = vertexPart st slots in
+        let q1 : b1 ≡ placed b 0 h = e1 ∙ λ d. placed b 0 (wordBytes (headerOf (are .parcels-are d) (are .rings-are d) (are .vertices-are d)) 6) in
+        let q2 : b2 ≡ placed (placed b 0 h) parcelsAt e = e2 ∙ λ d. placed (q1 d) parcelsAt (entries-are xs records whole d) in
+        let qr : r ≡ parcelsAt + length e = er ∙ λ d. parcelsAt + length (entries-are xs records whole d) in
+        let q3 : b3 ≡ placed (placed (placed b 0 h) parcelsAt e) (parcelsAt + length e) n = e3 ∙ λ d. placed (q2 d) (qr d) (ends-are xs records whole d) in
+        let qv : v ≡ parcelsAt + length e + length n = ev ∙ λ d. qr d + length (ends-are xs records whole d) in
+        let q4 : b4 ≡ placed (placed (placed (placed b 0 h) parcelsAt e) (parcelsAt + length e) n) (parcelsAt + length e + length n) x = e4 ∙ λ d. placed (q3 d) (qv d) (vertices-are xs records whole d) in
+        q4 ∙ sym (placed-append (placed (placed b 0 h) parcelsAt e) (parcelsAt + length e) n x) ∙ sym (placed-append (placed b 0 h) parcelsAt e (n ++ x)) ∙ sym (placed-append b 0 h (e ++ (n ++ x)))
 
-  pub card-steps : (t : Totals) → t ≡ totalsOf records → (b : List ℕ) {b1 b2 b3 b4 : List ℕ} {r v : ℕ} → b1 ≡ placed b 0 (wordBytes (headerOf t) 6)
-      → r ≡ 12 + length (entriesTo bare slots) → b2 ≡ placed b1 12 (entriesTo bare slots)
-      → v ≡ r + length (endsTo bare slots) → b3 ≡ placed b2 r (endsTo bare slots)
-      → b4 ≡ placed b3 v (verticesTo st slots) → b4 ≡ placed b 0 (cardOf st)
-  unfolding joined
-  card-steps t is b {b1} {b2} {b3} {b4} {r} {v} e1 er e2 ev e3 e4 =
-      let h = wordBytes (headerOf t) 6 in
-      let e = entriesTo st slots in
-      let n = endsTo st slots in
-      let x = verticesTo st slots in
-      let q2 : b2 ≡ placed (placed b 0 h) 12 e = e2 ∙ λ d. placed (e1 d) 12 (entries-same d) in
-      let qr : r ≡ 12 + length e = er ∙ λ d. 12 + length (entries-same d) in
-      let q3 : b3 ≡ placed (placed (placed b 0 h) 12 e) (12 + length e) n = e3 ∙ λ d. placed (q2 d) (qr d) (ends-same d) in
-      let qv : v ≡ 12 + length e + length n = ev ∙ λ d. qr d + length (ends-same d) in
-      let q4 : b4 ≡ placed (placed (placed (placed b 0 h) 12 e) (12 + length e) n) (12 + length e + length n) x = e4 ∙ λ d. placed (q3 d) (qv d) x in
-      let a = totals-are xs records [] few in
-      let c = split (t .parcels) (t .rings) (t .vertices) (a .0 ∙ ap (λ (z : Totals). z .parcels) (sym is)) (a .1 ∙ ap (λ (z : Totals). z .rings) (sym is)) (a .2 ∙ ap (λ (z : Totals). z .vertices) (sym is)) in
-      q4 ∙ sym (placed-append (placed (placed b 0 h) 12 e) (12 + length e) n x) ∙ sym (placed-append (placed b 0 h) 12 e (n ++ x)) ∙ sym (placed-append b 0 h (e ++ (n ++ x))) ∙ ap (placed b 0) (sym c)
-
--- the relations are no part of a card
-pub card-alone : (xs : List ℤ) (records relations : List ℕ) → cardOf (parcelAt (slotsOf xs records)) ≡ cardOf (parcelAt (sheetOf xs records relations))
-unfolding parcelAt
-card-alone xs records relations = refl
+  pub card-room : length (cardOf st) ≡ parcelsAt + length (entriesOf records) + length (endsOf records) + length (verticesOf xs records)
+  card-room =
+      omega (
+        arith,
+        written-length st,
+        entries-length st slots,
+        ends-length st slots,
+        vertices-length st slots,
+        ap length (entries-are xs records whole),
+        ap length (ends-are xs records whole),
+        ap length (vertices-are xs records whole),
+      )
 
 -- ---- the call
-module _ (xs : List ℤ) (records relations buffer : List ℕ) where
-  abbrev s : Sheet
-  s = sheetOf xs records relations
-
+module _ (s : Sheet) (buffer : List ℕ) where
   abbrev answer : (number length : ℕ) → Written
   answer number length = record { number = number; length = length }
 
-  pub write-refused-lists : wrongLists s ≡ true → (answer 11 0 ≡ written s buffer) × (buffer ≡ write s buffer)
-  unfolding written write writeNumber
-  write-refused-lists w = (rw w refl, rw w refl)
+  abbrev size : ℕ
+  size = length (cardOf (parcelAt s))
 
-  module _ (w : wrongLists s ≡ false) where
-    pub write-refused-damaged : damaged s ≡ true → (answer 12 0 ≡ written s buffer) × (buffer ≡ write s buffer)
-    unfolding written write writeNumber
-    write-refused-damaged d = (rw (w, d) refl, rw (w, d) refl)
+  abbrev short : Bool
+  short = ltb (length buffer) size
 
-    module _ (d : damaged s ≡ false) where
-      pub write-refused-short : {n : ℕ} → n ≡ length (cardOf (parcelAt s)) → length buffer < n → (answer 10 0 ≡ written s buffer) × (buffer ≡ write s buffer)
-      unfolding written write writeNumber
-      write-refused-short e h = let l = lt-ltb (length buffer) (length (cardOf (parcelAt s))) (omega arith) in (rw (w, d, l) refl, rw (w, d, l) refl)
+  refused : {n : ℕ} → n ≡ writeNumber s buffer → n ≢ 0 → (answer n 0 ≡ written s buffer) × (buffer ≡ write s buffer)
+  unfolding written write
+  refused {n} e z =
+      let t = ne-eqb (writeNumber s buffer) 0 (λ q. z (e ∙ q)) in
+      (rw t (ap (λ (m : ℕ). answer m 0) e), rw t refl)
 
-      pub write-done : {n : ℕ} → n ≡ length (cardOf (parcelAt s)) → n ≤ length buffer → {b : List ℕ} → b ≡ placed buffer 0 (cardOf (parcelAt s)) → (answer 0 n ≡ written s buffer) × (b ≡ write s buffer)
-      unfolding written write writeNumber
-      write-done e h q =
-          let l = le-ltb (length buffer) (length (cardOf (parcelAt s))) (omega arith) in
-          (rw (w, d, l) (ap (answer 0) e), rw (w, d, l) (q ∙ placed-whole buffer (cardOf (parcelAt s)) (omega arith)))
+  pub write-refused : {n : ℕ} → n ≡ wholeNumber s → n ≢ 0 → (answer n 0 ≡ written s buffer) × (buffer ≡ write s buffer)
+  unfolding writeNumber
+  write-refused {n} e z = refused (e ∙ sym (or-else-first (wholeNumber s) (numberIf short buffer-short) (λ q. z (e ∙ q)))) z
+
+  module _ (whole : wholeNumber s ≡ 0) where
+    next : writeNumber s buffer ≡ numberIf short buffer-short
+    unfolding writeNumber
+    next = or-else-next (wholeNumber s) (numberIf short buffer-short) whole
+
+    pub write-short : {n : ℕ} → n ≡ size → length buffer < n → (answer 10 0 ≡ written s buffer) × (buffer ≡ write s buffer)
+    write-short e h = refused (sym (next ∙ rw (lt-ltb (length buffer) size (omega arith)) refl)) (λ q. omega arith)
+
+    pub write-done : {n : ℕ} → n ≡ size → n ≤ length buffer → {b : List ℕ} → b ≡ placed buffer 0 (cardOf (parcelAt s)) → (answer 0 n ≡ written s buffer) × (b ≡ write s buffer)
+    unfolding written write
+    write-done e h q =
+        let z : writeNumber s buffer ≡ 0 = next ∙ rw (le-ltb (length buffer) size (omega arith)) refl in
+        (rw z (ap (answer 0) e), rw z (q ∙ placed-whole buffer (cardOf (parcelAt s)) (omega arith)))

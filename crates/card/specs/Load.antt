@@ -1,18 +1,17 @@
--- Document 01: "Loading: 11, 14, 15, then rules 2 and 3 parcel by parcel, 16, then 4 to 7 parcel by parcel .. It replaces the whole sheet,
--- damaged or not."
---   loadNumber s b, load s b     what loading the card b into the sheet s answers, and the lists at exit
+-- Document 01, "The card": loading is refused by 11, then by the card's own numbers, and otherwise replaces the whole sheet, damaged or not.
+--   loadNumber s b    what loading the card b into the sheet s answers;  load s b  the sheet at exit
 use mathlib.Core.List.{List}
 use Prim.Native.Nat.{ℕ}
 use lib.Dec.{eqb}
 use Rattle.plane.specs.Choice.{pick}
-use Rattle.outline.specs.Refusals.{number, sheet-lists}
-use Rattle.slots.specs.Layout.{Sheet, layout}
-use Rattle.slots.specs.Slots.{wrongLists}
+use Rattle.outline.specs.Refusals.{numberIf, orElse, sheet-lists}
+use Rattle.layout.specs.Sheet.{Sheet, wrongLists}
+use Rattle.layout.specs.Layout.{layout}
 use Rattle.parcels.specs.Reading.{parcelIn}
 use Rattle.parcels.specs.CardNumber.{cardNumber}
 
 unfoldable pub loadNumber : Sheet → List ℕ → ℕ
-loadNumber s b = pick (wrongLists s) (number sheet-lists) (cardNumber b)
+loadNumber s b = orElse (numberIf (wrongLists s) sheet-lists) (cardNumber b)
 
 unfoldable pub load : Sheet → List ℕ → Sheet
 load s b = pick (eqb (loadNumber s b) 0) (layout (parcelIn b)) s

@@ -1,66 +1,50 @@
--- Document 01: "Writing: 11, 12, then 10 exactly when the buffer is shorter than the card; it answers the card's length (0 beside a refusal),
--- and bytes past the card keep their values."
---   parcelTotal, ringTotal, vertexTotal     how many parcels, rings and vertices stand
+-- Document 01, "The card": the card of what stands, and writing it. Writing is refused by 11, then 12, then 10 where the buffer is shorter
+-- than the card; it answers the card's length, 0 beside a refusal, and bytes behind the card stay.
+--   headerOf p r v          the six numbers of the header of a card with so many parcels, rings and vertices
+--   entryBytes i there n    the entry of slot i, where a parcel with n rings is there
+--   entryPart, endPart, vertexPart     the three parts of the card of what stands in the slots below n
 --   cardOf st               the card of the parcels st, in rising slot order
---   writeNumber s buffer    what writing the sheet s into the buffer answers;  written  number and length;  write  the buffer at exit
-use mathlib.Core.List.{List, [], _++_}
-use Prim.Native.Nat.{ℕ, _+_, _*_}
+--   writeNumber s buffer    the refusal of writing the sheet s into the buffer, or 0
+--   written s buffer        what writing answers: number and length;  write s buffer  the buffer at exit
+use mathlib.Core.Bool.{Bool}
+use mathlib.Core.List.{List, [], _∷_, _++_}
+use Prim.Native.Nat.{ℕ, _*_}
 use lib.Dec.{ltb, eqb}
-use lib.ListN.{length, getD, drop}
-use lib.IntN.{pos}
+use lib.ListN.{length, drop}
 use Rattle.plane.specs.Choice.{pick}
-use Rattle.plane.specs.Folds.{sumTo}
-use Rattle.outline.specs.Refusals.{number, sheet-lists, sheet-damaged, buffer-short}
-use Rattle.outline.specs.Region.{lastEnd}
-use Rattle.slots.specs.Layout.{Sheet, Parcel, nothing, outline, slots}
-use Rattle.slots.specs.Slots.{parcelAt, damaged, wrongLists}
-use Rattle.card.specs.declared.Written.{Written}
-use Rattle.endian.specs.Bytes.{u16Bytes, i32Bytes, joined}
+use Rattle.outline.specs.Region.{Parcel, lastEnd}
+use Rattle.outline.specs.Refusals.{numberIf, orElse, buffer-short}
+use Rattle.layout.specs.Sheet.{Sheet, slots}
+use Rattle.layout.specs.Standing.{occupied, endList, coordinateList, parcelsBelow, ringsBelow, verticesBelow}
+use Rattle.layout.specs.Slots.{parcelAt}
+use Rattle.layout.specs.Changes.{wholeNumber}
+use Rattle.endian.specs.Bytes.{u16Bytes, joined}
+use Rattle.endian.specs.Placed.{wordBytes, numberBytes}
 use Rattle.parcels.specs.Layout.{parcelsAt, ringsAt, verticesAt}
+use Rattle.card.specs.declared.Written.{Written}
 
-abbrev pub stands : Parcel → ℕ
-stands nothing = 0
-stands (outline xs ends) = 1
+abbrev pub headerOf : (p r v : ℕ) → List ℕ
+headerOf p r v = p ∷ r ∷ v ∷ parcelsAt ∷ ringsAt p ∷ verticesAt p r ∷ []
 
-abbrev pub ringsOf : Parcel → ℕ
-ringsOf nothing = 0
-ringsOf (outline xs ends) = length ends
+abbrev pub entryBytes : (i : ℕ) → Bool → (n : ℕ) → List ℕ
+entryBytes i there n = pick there (u16Bytes i ++ u16Bytes n) []
 
-abbrev pub verticesOf : Parcel → ℕ
-verticesOf nothing = 0
-verticesOf (outline xs ends) = lastEnd ends
+abbrev pub entryPart : (ℕ → Parcel) → ℕ → List ℕ
+entryPart st n = joined (λ i. entryBytes i (occupied (st i)) (length (endList (st i)))) n
 
-abbrev pub entryBytes : ℕ → Parcel → List ℕ
-entryBytes i nothing = []
-entryBytes i (outline xs ends) = u16Bytes i ++ u16Bytes (length ends)
+abbrev pub endPart : (ℕ → Parcel) → ℕ → List ℕ
+endPart st n = joined (λ i. wordBytes (endList (st i)) (length (endList (st i)))) n
 
-abbrev pub endBytes : Parcel → List ℕ
-endBytes nothing = []
-endBytes (outline xs ends) = joined (λ r. u16Bytes (getD ends r 0)) (length ends)
-
-abbrev pub vertexBytes : Parcel → List ℕ
-vertexBytes nothing = []
-vertexBytes (outline xs ends) = joined (λ k. i32Bytes (getD xs k (pos 0))) (2 * lastEnd ends)
-
-unfoldable pub parcelTotal : (ℕ → Parcel) → ℕ
-parcelTotal st = sumTo (λ i. stands (st i)) slots
-
-unfoldable pub ringTotal : (ℕ → Parcel) → ℕ
-ringTotal st = sumTo (λ i. ringsOf (st i)) slots
-
-unfoldable pub vertexTotal : (ℕ → Parcel) → ℕ
-vertexTotal st = sumTo (λ i. verticesOf (st i)) slots
+abbrev pub vertexPart : (ℕ → Parcel) → ℕ → List ℕ
+vertexPart st n = joined (λ i. numberBytes (coordinateList (st i)) (2 * lastEnd (endList (st i)))) n
 
 unfoldable pub cardOf : (ℕ → Parcel) → List ℕ
 cardOf st =
-    u16Bytes (parcelTotal st) ++ (u16Bytes (ringTotal st) ++ (u16Bytes (vertexTotal st)
-    ++ (u16Bytes parcelsAt ++ (u16Bytes (ringsAt (parcelTotal st)) ++ (u16Bytes (verticesAt (parcelTotal st) (ringTotal st))
-    ++ (joined (λ i. entryBytes i (st i)) slots ++ (joined (λ i. endBytes (st i)) slots ++ joined (λ i. vertexBytes (st i)) slots)))))))
+    wordBytes (headerOf (parcelsBelow st slots) (ringsBelow st slots) (verticesBelow st slots)) 6
+    ++ (entryPart st slots ++ (endPart st slots ++ vertexPart st slots))
 
 unfoldable pub writeNumber : Sheet → List ℕ → ℕ
-writeNumber s buffer =
-    pick (wrongLists s) (number sheet-lists)
-    (pick (damaged s) (number sheet-damaged) (pick (ltb (length buffer) (length (cardOf (parcelAt s)))) (number buffer-short) 0))
+writeNumber s buffer = orElse (wholeNumber s) (numberIf (ltb (length buffer) (length (cardOf (parcelAt s)))) buffer-short)
 
 unfoldable pub written : Sheet → List ℕ → Written
 written s buffer =

@@ -1,17 +1,20 @@
-// The card: bytes to parcels and back.
+// A card into a sheet, and a sheet into a card.
 ghost use mathlib.Core.Path.{_≡_};
 ghost use mathlib.Core.Bool.{false};
 ghost use Prim.Native.Nat.{_<_};
-ghost use Rattle.slots.specs.Layout.{sheetOf, layout};
-ghost use Rattle.slots.specs.Slots.{wrongLists};
+ghost use Rattle.layout.specs.Sheet.{sheetOf, wrongLists};
+ghost use Rattle.layout.specs.Layout.{layout};
 ghost use Rattle.sheet.specs.Changes.{put};
-ghost use Rattle.parcels.specs.Reading.{parcelCount, slotAt, endsAt, numbersAt, parcelIn};
+ghost use Rattle.parcels.specs.Reading.{parcelCount, slotAt, regionAt, parcelIn};
 ghost use Rattle.parcels.specs.CardNumber.{cardNumber};
 ghost use Rattle.card.specs.Load.{loadNumber, load};
 ghost use Rattle.card.specs.Write.{written, write};
+use layout::lists::wrong_lists;
+use layout::refused::whole_number;
+use outline::MOST_RINGS;
 use outline::refusals::BUFFER_SHORT;
-use outline::refusals::SHEET_DAMAGED;
 use outline::refusals::SHEET_LISTS;
+use parcels::MOST_NUMBERS;
 use parcels::PARCELS_AT;
 use parcels::parcel_count;
 use parcels::read_ends;
@@ -20,8 +23,6 @@ use parcels::rules::card_number;
 use parcels::slot_at;
 use sheet::clear;
 use sheet::put;
-use sheet::wrong_lists;
-use slots::damage::sheet_damaged;
 use writing::count_all;
 use writing::put_card;
 
@@ -43,11 +44,11 @@ pub struct Totals {
 // Parcel k of a good card into its slot.
 fn put_parcel(xs: &mut [i32], records: &mut [u16], relations: &mut [u16], card: &[u8], k: usize)
     requires { ⌜ (cardNumber (now card) ≡ 0) × (k < parcelCount (now card)) ⌝ }
-    ensures { λ _. ⌜ sheetOf (now (xs .exit)) (now (records .exit)) (now (relations .exit)) ≡ put (sheetOf (now (xs .entry)) (now (records .entry)) (now (relations .entry))) (slotAt (now (card .entry)) k) (numbersAt (now (card .entry)) k) (endsAt (now (card .entry)) k) ⌝ }
+    ensures { λ _. ⌜ sheetOf (now (xs .exit)) (now (records .exit)) (now (relations .exit)) ≡ put (sheetOf (now (xs .entry)) (now (records .entry)) (now (relations .entry))) (slotAt (now (card .entry)) k) (regionAt (now (card .entry)) k) ⌝ }
 {
-    let mut list = [0u16; 8];
-    let rings = read_ends(card, k, &mut list);
-    let mut numbers = [0i32; 128];
+    let mut ends = [0u16; MOST_RINGS];
+    let rings = read_ends(card, k, &mut ends);
+    let mut numbers = [0i32; MOST_NUMBERS];
     let n = read_numbers(card, k, &mut numbers);
     let slot = slot_at(card, k);
     put(
@@ -56,7 +57,7 @@ fn put_parcel(xs: &mut [i32], records: &mut [u16], relations: &mut [u16], card: 
         relations,
         slot,
         &numbers[0..n],
-        &list[0..rings],
+        &ends[0..rings],
     );
 }
 
@@ -76,7 +77,7 @@ fn lay_out(xs: &mut [i32], records: &mut [u16], relations: &mut [u16], card: &[u
 
 // Nothing is written before the whole card is checked.
 pub fn load(xs: &mut [i32], records: &mut [u16], relations: &mut [u16], card: &[u8]) -> u16
-    ensures { λ r. ⌜ r ≡ loadNumber (sheetOf (now (xs .entry)) (now (records .entry)) (now (relations .entry))) (now (card .entry)) ⌝ }
+    ensures { λ n. ⌜ n ≡ loadNumber (sheetOf (now (xs .entry)) (now (records .entry)) (now (relations .entry))) (now (card .entry)) ⌝ }
     ensures { λ _. ⌜ sheetOf (now (xs .exit)) (now (records .exit)) (now (relations .exit)) ≡ load (sheetOf (now (xs .entry)) (now (records .entry)) (now (relations .entry))) (now (card .entry)) ⌝ }
 {
     if wrong_lists(xs, records, relations) {
@@ -94,17 +95,9 @@ pub fn write(xs: &[i32], records: &[u16], relations: &[u16], buffer: &mut [u8]) 
     ensures { λ r. ⌜ r ≡ written (sheetOf (now (xs .entry)) (now (records .entry)) (now (relations .entry))) (now (buffer .entry)) ⌝ }
     ensures { λ _. ⌜ now (buffer .exit) ≡ write (sheetOf (now (xs .entry)) (now (records .entry)) (now (relations .entry))) (now (buffer .entry)) ⌝ }
 {
-    if wrong_lists(xs, records, relations) {
-        return Written {
-            number: SHEET_LISTS,
-            length: 0,
-        };
-    }
-    if sheet_damaged(xs, records) {
-        return Written {
-            number: SHEET_DAMAGED,
-            length: 0,
-        };
+    let number = whole_number(xs, records, relations);
+    if number != 0 {
+        return Written { number, length: 0 };
     }
     let t = count_all(records);
     let length = PARCELS_AT + 4 * t.parcels + 2 * t.rings + 8 * t.vertices;

@@ -1,37 +1,39 @@
 // A sheet's parcels as a card.
 ghost use mathlib.Core.Path.{_≡_};
-ghost use mathlib.Core.List.{[]};
+ghost use mathlib.Core.Bool.{not};
 ghost use Prim.Native.Nat.{_+_, _*_, _≤_, _<_};
 ghost use lib.ListN.{length};
-ghost use Rattle.slots.specs.Layout.{slots, coordinates-length};
-ghost use Rattle.slots.specs.Slots.{parcelAt};
-ghost use Rattle.slots.specs.Steps.{slotsOf};
-ghost use Rattle.card.specs.Write.{entryBytes, cardOf};
+ghost use Rattle.plane.specs.TileSet.{one-if};
+ghost use Rattle.layout.specs.Slots.{ringsIn, emptyIn, inSlot};
+ghost use Rattle.layout.specs.Steps.{Counted, Whole};
 ghost use Rattle.endian.specs.Placed.{placed, wordBytes};
-ghost use Rattle.card.specs.Steps.{Counted, stood, totalsOf, headerOf, entriesTo, endsTo, verticesTo};
+ghost use Rattle.parcels.specs.Layout.{cardParcels, cardRings, cardVertices, parcelsAt};
+ghost use Rattle.card.specs.Write.{headerOf, entryBytes, cardOf};
+ghost use Rattle.card.specs.Steps.{Countable, totalsOf, entriesOf, endsOf, verticesOf};
 use crate::Totals;
 use endian::put_numbers;
 use endian::put_u16;
 use endian::put_words;
+use layout::lists::SLOTS;
+use layout::storage::ends_at;
+use layout::storage::is_empty;
+use layout::storage::outline_at;
+use layout::storage::ring_count;
 use outline::last_end;
 use parcels::PARCELS_AT;
-use slots::storage::SLOTS;
-use slots::storage::ends_at;
-use slots::storage::numbers_at;
-use slots::storage::ring_count;
 
-// A slot with rings has one parcel.
-fn stood(rings: usize) -> usize
-    ensures { λ n. ⌜ n ≡ stood rings ⌝ }
+fn parcels_in(records: &[u16], slot: usize) -> usize
+    requires { ⌜ Counted (now records) slot ⌝ }
+    ensures { λ n. ⌜ n ≡ one-if (not (emptyIn (now (records .entry)) slot)) ⌝ }
 {
-    if rings == 0 {
+    if is_empty(records, slot) {
         return 0;
     }
     1
 }
 
 pub fn count_all(records: &[u16]) -> Totals
-    requires { ⌜ Counted (now records) ⌝ }
+    requires { ⌜ Countable (now records) ⌝ }
     ensures { λ t. ⌜ t ≡ totalsOf (now (records .entry)) ⌝ }
 {
     let mut parcels: usize = 0;
@@ -39,9 +41,8 @@ pub fn count_all(records: &[u16]) -> Totals
     let mut vertices: usize = 0;
     let mut i = 0;
     while i < SLOTS {
-        let n = ring_count(records, i);
-        parcels += stood(n);
-        rings += n;
+        parcels += parcels_in(records, i);
+        rings += ring_count(records, i);
         vertices += last_end(ends_at(records, i));
         i += 1;
     }
@@ -54,9 +55,9 @@ pub fn count_all(records: &[u16]) -> Totals
 
 // The entry of a slot, and the place behind it.
 fn put_entry(b: &mut [u8], at: usize, records: &[u16], slot: usize) -> usize
-    requires { ⌜ Counted (now records) × (slot < slots) × (at + length (entryBytes slot (parcelAt (slotsOf [] (now records)) slot)) ≤ length (now b)) ⌝ }
-    ensures { λ n. ⌜ n ≡ at + length (entryBytes slot (parcelAt (slotsOf [] (now (records .entry))) slot)) ⌝ }
-    ensures { λ _. ⌜ now (b .exit) ≡ placed (now (b .entry)) at (entryBytes slot (parcelAt (slotsOf [] (now (records .entry))) slot)) ⌝ }
+    requires { ⌜ Counted (now records) slot × (at + length (entryBytes slot (not (emptyIn (now records) slot)) (ringsIn (now records) slot)) ≤ length (now b)) ⌝ }
+    ensures { λ n. ⌜ n ≡ at + length (entryBytes slot (not (emptyIn (now (records .entry)) slot)) (ringsIn (now (records .entry)) slot)) ⌝ }
+    ensures { λ _. ⌜ now (b .exit) ≡ placed (now (b .entry)) at (entryBytes slot (not (emptyIn (now (records .entry)) slot)) (ringsIn (now (records .entry)) slot)) ⌝ }
 {
     let n = ring_count(records, slot);
     if n == 0 {
@@ -68,9 +69,9 @@ fn put_entry(b: &mut [u8], at: usize, records: &[u16], slot: usize) -> usize
 }
 
 fn put_entries(b: &mut [u8], from: usize, records: &[u16]) -> usize
-    requires { ⌜ Counted (now records) × (from + length (entriesTo (parcelAt (slotsOf [] (now records))) slots) ≤ length (now b)) ⌝ }
-    ensures { λ n. ⌜ n ≡ from + length (entriesTo (parcelAt (slotsOf [] (now (records .entry)))) slots) ⌝ }
-    ensures { λ _. ⌜ now (b .exit) ≡ placed (now (b .entry)) from (entriesTo (parcelAt (slotsOf [] (now (records .entry)))) slots) ⌝ }
+    requires { ⌜ Countable (now records) × (from + length (entriesOf (now records)) ≤ length (now b)) ⌝ }
+    ensures { λ n. ⌜ n ≡ from + length (entriesOf (now (records .entry))) ⌝ }
+    ensures { λ _. ⌜ now (b .exit) ≡ placed (now (b .entry)) from (entriesOf (now (records .entry))) ⌝ }
 {
     let mut at = from;
     let mut i = 0;
@@ -82,9 +83,9 @@ fn put_entries(b: &mut [u8], from: usize, records: &[u16]) -> usize
 }
 
 fn put_ends(b: &mut [u8], from: usize, records: &[u16]) -> usize
-    requires { ⌜ Counted (now records) × (from + length (endsTo (parcelAt (slotsOf [] (now records))) slots) ≤ length (now b)) ⌝ }
-    ensures { λ n. ⌜ n ≡ from + length (endsTo (parcelAt (slotsOf [] (now (records .entry)))) slots) ⌝ }
-    ensures { λ _. ⌜ now (b .exit) ≡ placed (now (b .entry)) from (endsTo (parcelAt (slotsOf [] (now (records .entry)))) slots) ⌝ }
+    requires { ⌜ Countable (now records) × (from + length (endsOf (now records)) ≤ length (now b)) ⌝ }
+    ensures { λ n. ⌜ n ≡ from + length (endsOf (now (records .entry))) ⌝ }
+    ensures { λ _. ⌜ now (b .exit) ≡ placed (now (b .entry)) from (endsOf (now (records .entry))) ⌝ }
 {
     let mut at = from;
     let mut i = 0;
@@ -98,22 +99,22 @@ fn put_ends(b: &mut [u8], from: usize, records: &[u16]) -> usize
 }
 
 fn put_vertices(b: &mut [u8], from: usize, xs: &[i32], records: &[u16])
-    requires { ⌜ (length (now xs) ≡ coordinates-length) × Counted (now records) × (from + length (verticesTo (parcelAt (slotsOf (now xs) (now records))) slots) ≤ length (now b)) ⌝ }
-    ensures { λ _. ⌜ now (b .exit) ≡ placed (now (b .entry)) from (verticesTo (parcelAt (slotsOf (now (xs .entry)) (now (records .entry)))) slots) ⌝ }
+    requires { ⌜ Whole (now xs) (now records) × (from + length (verticesOf (now xs) (now records)) ≤ length (now b)) ⌝ }
+    ensures { λ _. ⌜ now (b .exit) ≡ placed (now (b .entry)) from (verticesOf (now (xs .entry)) (now (records .entry))) ⌝ }
 {
     let mut at = from;
     let mut i = 0;
     while i < SLOTS {
-        let vertices = last_end(ends_at(records, i));
-        put_numbers(b, at, numbers_at(xs, i, vertices));
-        at += 8 * vertices;
+        let outline = outline_at(xs, records, i);
+        put_numbers(b, at, outline);
+        at += 4 * outline.len();
         i += 1;
     }
 }
 
 fn put_header(b: &mut [u8], t: Totals)
-    requires { ⌜ (t .parcels ≤ 32) × (t .rings ≤ 256) × (t .vertices ≤ 2048) × (12 ≤ length (now b)) ⌝ }
-    ensures { λ _. ⌜ now (b .exit) ≡ placed (now (b .entry)) 0 (wordBytes (headerOf t) 6) ⌝ }
+    requires { ⌜ (t .parcels ≤ cardParcels) × (t .rings ≤ cardRings) × (t .vertices ≤ cardVertices) × (parcelsAt ≤ length (now b)) ⌝ }
+    ensures { λ _. ⌜ now (b .exit) ≡ placed (now (b .entry)) 0 (wordBytes (headerOf (t .parcels) (t .rings) (t .vertices)) 6) ⌝ }
 {
     let rings_at = PARCELS_AT + 4 * t.parcels;
     let vertices_at = rings_at + 2 * t.rings;
@@ -130,8 +131,8 @@ fn put_header(b: &mut [u8], t: Totals)
 
 // The card from the front of a buffer that is long enough.
 pub fn put_card(b: &mut [u8], xs: &[i32], records: &[u16], t: Totals)
-    requires { ⌜ (t ≡ totalsOf (now records)) × (length (now xs) ≡ coordinates-length) × Counted (now records) × (length (cardOf (parcelAt (slotsOf (now xs) (now records)))) ≤ length (now b)) ⌝ }
-    ensures { λ _. ⌜ now (b .exit) ≡ placed (now (b .entry)) 0 (cardOf (parcelAt (slotsOf (now (xs .entry)) (now (records .entry))))) ⌝ }
+    requires { ⌜ (t ≡ totalsOf (now records)) × Whole (now xs) (now records) × (length (cardOf (inSlot (now xs) (now records))) ≤ length (now b)) ⌝ }
+    ensures { λ _. ⌜ now (b .exit) ≡ placed (now (b .entry)) 0 (cardOf (inSlot (now (xs .entry)) (now (records .entry)))) ⌝ }
 {
     put_header(b, t);
     let rings_at = put_entries(b, PARCELS_AT, records);

@@ -1,22 +1,20 @@
-use Rattle.card.proofs.Loading.{cleared, put-loaded, loaded-all, same-lists}
+-- The loop's invariant: the sheet is the layout of the parcels so far.
 use mathlib.Core.Path.{_≡_, _∙_, ap}
+use mathlib.Core.List.{List}
 use Prim.Native.Nat.{ℕ, _≤_, _-_}
 use native.Mathlib.Omega.{arith}
 use lib.ListN.{length}
-use Rattle.slots.specs.Layout.{Sheet, sheetOf, layout}
+use Rattle.layout.specs.Sheet.{Sheet, sheetOf}
+use Rattle.layout.specs.Layout.{layout}
+use Rattle.layout.proofs.Standing.{stand-fewer}
 use Rattle.sheet.specs.Changes.{put}
-use Rattle.parcels.specs.Reading.{slotAt, numbersAt, endsAt}
-use Rattle.card.specs.Steps.{loaded}
-use Rattle.parcels.proofs.Good.{good-tests}
-use Rattle.parcels.proofs.Bounds.{header-means}
+use Rattle.parcels.specs.Reading.{parcelCount, slotAt, regionAt}
+use Rattle.parcels.specs.Good.{GoodCard}
+use Rattle.parcels.proofs.Good.{good-means}
+use Rattle.card.proofs.Loading.{loaded, loaded-stand, cleared, put-loaded, loaded-all, same-lists}
 use borrow.Author.Needs.{needs}
 use Rattle.card.proofs.lay_out.Statement.{statement}
 use Rattle.card.proofs.lay_out.Tie as tie
-use Rattle.card.proofs.lay_out.Reads as reads
-use Rattle.card.proofs.lay_out.Lts as lts
-use Rattle.parcels.proofs.parcel_count.Reads as parcel-count-reads
-use Rattle.card.proofs.put_parcel.Reads as put-parcel-reads
-use Rattle.sheet.proofs.clear.Reads as clear-reads
 
 abbrev Inv-loop : tie.InvT-loop
 Inv-loop xs₀ records₀ relations₀ card parcels k₀ xs records relations k = (k ≤ parcels) × (sheetOf xs records relations ≡ layout (loaded card k))
@@ -24,12 +22,24 @@ Inv-loop xs₀ records₀ relations₀ card parcels k₀ xs records relations k 
 abbrev μ-loop : tie.MeasureT-loop
 μ-loop xs₀ records₀ relations₀ card parcels k₀ xs records relations k = parcels - k
 
-kept : (c : tie.At-loop Inv-loop μ-loop)
-    → let a = c .before .before .before .before .before .before .before .before .before .before .before .before .before .before .args in
-    (length (c .loop .xs) ≡ length (a .xs .now)) × (length (c .loop .records) ≡ length (a .records .now)) × (length (c .loop .relations) ≡ length (a .relations .now))
-kept c =
-    let s = c .before .before .before .before .before .before .before .before .before .before .before .before .before .before in
-    same-lists (sheetOf (s .args .xs .now) (s .args .records .now) (s .args .relations .now)) (s .pre .0) (loaded (s .args .card .now) (c .loop .k)) (c .loop .inv .1)
+module _ (s : tie.Start Inv-loop μ-loop) where
+  abbrev card : List ℕ
+  card = s .args .card .now
+
+  good : GoodCard card
+  good = good-means card .0 (s .pre .1)
+
+module _ (c : tie.At-loop Inv-loop μ-loop) where
+  abbrev start : tie.Start Inv-loop μ-loop
+  start = c .before .before .before .before .before .before .before .before .before .before .before .before .before .before
+
+  few : c .loop .k ≤ parcelCount (card start)
+  few = omega (arith, c .loop .inv .0, c .before .parcel-count .ensures)
+
+  kept : (length (c .loop .xs) ≡ length (start .args .xs .now)) × (length (c .loop .records) ≡ length (start .args .records .now)) × (length (c .loop .relations) ≡ length (start .args .relations .now))
+  kept =
+      same-lists (sheetOf (start .args .xs .now) (start .args .records .now) (start .args .relations .now)) (card start) (start .pre .0) (loaded (card start) (c .loop .k))
+      (stand-fewer (omega arith) (loaded-stand (card start) (good start) (c .loop .k) few)) (c .loop .inv .1)
 
 clear-requires : tie.Need-clear-requires Inv-loop μ-loop
 clear-requires c κs = search needs
@@ -37,12 +47,12 @@ clear-requires c κs = search needs
 parcel-count-requires : tie.Need-parcel-count-requires Inv-loop μ-loop
 parcel-count-requires c κs =
     let s = c .before .before .before .before .before .before .before .before .before .before .before .before in
-    omega (arith, header-means (s .args .card .now) (good-tests (s .args .card .now) (s .pre .1) .header) .total)
+    omega (arith, good s .whole-length)
 
 loop-holds : tie.Need-loop-holds Inv-loop μ-loop
 loop-holds c =
     let s = c .before .before .before .before .before .before .before .before .before .before .before .before .before in
-    (omega arith, c .before .before .before .before .before .before .clear .ensures .1 ∙ cleared _ (s .args .card .now) (s .pre .0))
+    (omega arith, cleared _ (card s) (s .pre .0) (c .before .before .before .before .before .before .clear .ensures .1))
 
 put-parcel-requires : tie.Need-put-parcel-requires Inv-loop μ-loop
 put-parcel-requires c κs = search needs
@@ -57,11 +67,9 @@ loop-again : tie.Need-loop-again Inv-loop μ-loop
 loop-again c =
     let q = c .before .before .before .before .before in
     let p = q .before .before .before .before .before in
-    let n = p .before in
-    let s = n .before .before .before .before .before .before .before .before .before .before .before .before .before in
-    let b = s .args .card .now in
+    let s = start p in
     let k = p .loop .k in
-    (omega arith, q .put-parcel .ensures ∙ ap (λ (t : Sheet). put t (slotAt b k) (numbersAt b k) (endsAt b k)) (p .loop .inv .1) ∙ put-loaded b (s .pre .1) k (omega (arith, n .parcel-count .ensures)))
+    (omega arith, q .put-parcel .ensures ∙ ap (λ (t : Sheet). put t (slotAt (card s) k) (regionAt (card s) k)) (p .loop .inv .1) ∙ put-loaded (card s) (good s) k (omega (arith, p .before .parcel-count .ensures)))
 
 same-length : tie.Need-same-length Inv-loop μ-loop
 same-length c = kept (c .before) .0
@@ -76,9 +84,8 @@ returns : tie.Need-returns Inv-loop μ-loop
 returns c =
     let p = c .before in
     let n = p .before in
-    let b = n .before .before .before .before .before .before .before .before .before .before .before .before .before .args .card .now in
     let e : p .loop .k ≡ n .parcel-count .result = omega arith in
-    p .loop .inv .1 ∙ ap (λ (m : ℕ). layout (loaded b m)) (e ∙ n .parcel-count .ensures) ∙ loaded-all b
+    p .loop .inv .1 ∙ ap (λ (m : ℕ). layout (loaded (card (start p)) m)) (e ∙ n .parcel-count .ensures) ∙ loaded-all (card (start p))
 
 pub lay-out-spec : {M : Type 1} → statement M
 lay-out-spec =

@@ -1,13 +1,8 @@
 use mathlib.Core.Path.{sym, _∙_}
-use Rattle.card.proofs.Loading.{load-refused-lists, load-refused-card, load-done}
+use Rattle.card.proofs.Loading.{load-refused, load-wrong, load-done}
 use borrow.Author.Needs.{needs}
 use Rattle.card.proofs.load.Statement.{statement}
 use Rattle.card.proofs.load.Tie as tie
-use Rattle.card.proofs.load.Reads as reads
-use Rattle.card.proofs.load.Lts as lts
-use Rattle.card.proofs.lay_out.Reads as lay-out-reads
-use Rattle.parcels.proofs.rules.card_number.Reads as card-number-reads
-use Rattle.sheet.proofs.wrong_lists.Reads as wrong-lists-reads
 
 wrong-lists-requires : tie.Need-wrong-lists-requires
 wrong-lists-requires c κs = search needs
@@ -22,7 +17,7 @@ same-length-3 : tie.Need-same-length-3
 same-length-3 c = search needs
 
 returns : tie.Need-returns
-returns c = load-refused-lists _ _ (sym (c .before .wrong-lists .ensures) ∙ c .if1 .taken)
+returns c = load-refused _ _ (sym (c .before .wrong-lists .ensures) ∙ c .if1 .taken)
 
 card-number-requires : tie.Need-card-number-requires
 card-number-requires c κs = search needs
@@ -37,7 +32,7 @@ same-length-6 : tie.Need-same-length-6
 same-length-6 c = search needs
 
 returns-2 : tie.Need-returns-2
-returns-2 c = let e = c .before .before in load-refused-card _ _ (sym (e .before .wrong-lists .ensures) ∙ e .if1 .left) (c .before .card-number .ensures) (c .if2 .taken)
+returns-2 c = let e = c .before .before in load-wrong _ _ (sym (e .before .wrong-lists .ensures) ∙ e .if1 .left) (c .before .card-number .ensures) (c .if2 .taken)
 
 lay-out-requires : tie.Need-lay-out-requires
 lay-out-requires c κs =

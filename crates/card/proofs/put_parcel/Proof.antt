@@ -1,47 +1,44 @@
-use mathlib.Core.Path.{_≡_, refl, _∙_}
+use mathlib.Core.Path.{_≡_, _∙_}
 use mathlib.Core.List.{List}
 use Prim.Native.Nat.{ℕ}
 use native.Mathlib.Omega.{arith}
 use lib.IntN.{ℤ}
-use Rattle.slots.specs.Layout.{Sheet, sheetOf}
+use Rattle.outline.specs.Region.{Region, regionOf}
+use Rattle.layout.specs.Sheet.{Sheet, sheetOf}
 use Rattle.sheet.specs.Changes.{put}
-use Rattle.parcels.specs.Steps.{RightVertices}
-use Rattle.parcels.proofs.Good.{good-tests}
-use Rattle.parcels.proofs.Bounds.{VertexPart, entry-there, entry-few, vertices-there}
-use Rattle.parcels.proofs.CardTests.{good-right}
-use Rattle.parcels.proofs.Filling.{front}
+use Rattle.parcels.specs.Right.{RightVertices}
+use Rattle.parcels.proofs.Good.{good-means, good-right}
+use Rattle.parcels.proofs.Bounds.{ends-read, numbers-read, entry-there, entry-few, vertices-there}
 use borrow.Author.Needs.{needs}
 use Rattle.card.proofs.put_parcel.Statement.{statement}
 use Rattle.card.proofs.put_parcel.Tie as tie
-use Rattle.card.proofs.put_parcel.Reads as reads
-use Rattle.card.proofs.put_parcel.Lts as lts
-use Rattle.parcels.proofs.read_ends.Reads as read-ends-reads
-use Rattle.parcels.proofs.read_numbers.Reads as read-numbers-reads
-use Rattle.parcels.proofs.slot_at.Reads as slot-at-reads
-use Rattle.sheet.proofs.put.Reads as put-reads
 
-three : (f : ℕ → List ℤ → List ℕ → Sheet) {i j : ℕ} {xs ys : List ℤ} {es fs : List ℕ} → i ≡ j → xs ≡ ys → es ≡ fs → f i xs es ≡ f j ys fs
-three f p q r = λ d. f (p d) (q d) (r d)
+three : (f : ℕ → Region → Sheet) {i j : ℕ} {xs ys : List ℤ} {es fs : List ℕ} → i ≡ j → xs ≡ ys → es ≡ fs → f i (regionOf xs es) ≡ f j (regionOf ys fs)
+three f p q r = λ d. f (p d) (regionOf (q d) (r d))
 
-right : (s : tie.Start) → RightVertices (s .args .card .now)
-right s = good-right (s .args .card .now) (good-tests (s .args .card .now) (s .pre .0))
+module _ (s : tie.Start) where
+  abbrev card : List ℕ
+  card = s .args .card .now
+
+  right : RightVertices card
+  right = good-right card (good-means card .0 (s .pre .0))
 
 slice-aggregate-read-ends : tie.Need-slice-aggregate-read-ends
 slice-aggregate-read-ends c = search needs
 
 read-ends-requires : tie.Need-read-ends-requires
-read-ends-requires c κs = let s = c .before .before .before .before in (right s .parcels, s .pre .1, refl)
+read-ends-requires c κs = let s = c .before .before .before .before in (right s .parcels, s .pre .1, omega arith)
 
 slice-aggregate-read-numbers : tie.Need-slice-aggregate-read-numbers
 slice-aggregate-read-numbers c = search needs
 
 read-numbers-requires : tie.Need-read-numbers-requires
-read-numbers-requires c κs = let s = c .before .before .before .before .before .before .before in (right s, s .pre .1, refl)
+read-numbers-requires c κs = let s = c .before .before .before .before .before .before .before in (right s, s .pre .1, omega arith)
 
 slot-at-requires : tie.Need-slot-at-requires
 slot-at-requires c κs =
     let s = c .before .before .before .before .before .before .before .before .before in
-    entry-there (s .args .card .now) (right s .parcels .header) (s .args .k) (s .pre .1)
+    entry-there (card s) (right s .parcels .header) (s .args .k) (s .pre .1)
 
 sub-put : tie.Need-sub-put
 sub-put c = search needs
@@ -53,8 +50,7 @@ part-put-end : tie.Need-part-put-end
 part-put-end c =
     let m = c .before .before .before .before .before .before in
     let s = m .before .before .before .before .before .before .before .before in
-    let v : VertexPart (s .args .card .now) (s .args .k) = vertices-there (s .args .card .now) (right s) (s .args .k) (s .pre .1) in
-    omega (arith, m .read-numbers .ensures .0, v .few, m .read-numbers .kept .1 .1 .0)
+    omega (arith, m .read-numbers .ensures .0, vertices-there (card s) (right s) (s .args .k) (s .pre .1) .few, m .read-numbers .kept .1 .1 .0)
 
 sub-put-2 : tie.Need-sub-put-2
 sub-put-2 c = search needs
@@ -66,7 +62,7 @@ part-put-end-2 : tie.Need-part-put-end-2
 part-put-end-2 c =
     let e = c .before .before .before .before .before .before .before .before .before .before .before in
     let s = e .before .before .before .before .before in
-    omega (arith, e .read-ends .ensures .0, entry-few (s .args .card .now) (right s .parcels) (s .args .k) (s .pre .1) .1, e .read-ends .kept .1 .1 .0)
+    omega (arith, e .read-ends .ensures .0, entry-few (card s) (right s .parcels) (s .args .k) (s .pre .1) .1, e .read-ends .kept .1 .1 .0)
 
 put-requires : tie.Need-put-requires
 put-requires c κs = search needs
@@ -87,9 +83,10 @@ returns c =
     let m = t .before .before in
     let e = m .before .before .before in
     let s = e .before .before .before .before .before in
-    let sheet = sheetOf (s .args .xs .now) (s .args .records .now) (s .args .relations .now) in
+    let k = s .args .k in
     p .put .ensures .1
-    ∙ three (put sheet) (t .slot-at .ensures) (front (m .read-numbers .result) (m .read-numbers .last .1 .1 .0) ∙ m .read-numbers .ensures .1) (front (e .read-ends .result) (e .read-ends .last .1 .1 .0) ∙ e .read-ends .ensures .1)
+    ∙ three (put (sheetOf (s .args .xs .now) (s .args .records .now) (s .args .relations .now))) (t .slot-at .ensures)
+    (numbers-read (card s) k _ (m .read-numbers .ensures .0) (m .read-numbers .ensures .1)) (ends-read (card s) k _ (e .read-ends .ensures .0) (e .read-ends .ensures .1))
 
 pub put-parcel-spec : {M : Type 1} → statement M
 put-parcel-spec =

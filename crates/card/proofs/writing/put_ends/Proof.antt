@@ -1,64 +1,63 @@
-use Rattle.card.proofs.Parts.{words-are, words-size}
-use mathlib.Core.Path.{_≡_, sym, _∙_, ap}
-use mathlib.Core.List.{List, []}
+use mathlib.Core.Path.{_≡_, refl, sym, _∙_, ap}
+use mathlib.Core.List.{List}
 use Prim.Native.Nat.{ℕ, _+_, _*_, _-_, _≤_}
 use native.Mathlib.Omega.{arith}
-use lib.ListN.{length}
-use Rattle.slots.specs.Layout.{slots}
-use Rattle.slots.specs.Slots.{parcelAt}
-use Rattle.slots.specs.Steps.{slotsOf}
-use Rattle.card.specs.Write.{endBytes}
+use lib.ListN.{length, getD}
+use Rattle.layout.specs.Sheet.{slots}
+use Rattle.layout.specs.Slots.{endsIn}
+use Rattle.endian.specs.Bytes.{u16Bytes}
 use Rattle.endian.specs.Placed.{placed, wordBytes}
+use Rattle.endian.proofs.Placed.{length-same}
 use Rattle.endian.proofs.Running.{Running, running-none, running-room, running-more, running-all}
 use borrow.Author.Needs.{needs}
 use Rattle.card.proofs.writing.put_ends.Statement.{statement}
 use Rattle.card.proofs.writing.put_ends.Tie as tie
-use Rattle.card.proofs.writing.put_ends.Reads as reads
-use Rattle.card.proofs.writing.put_ends.Lts as lts
-use Rattle.endian.proofs.put_words.Reads as put-words-reads
-use Rattle.slots.proofs.storage.ends_at.Reads as ends-at-reads
+
+abbrev bytes : List ℕ → ℕ → List ℕ
+bytes records j = wordBytes (endsIn records j) (length (endsIn records j))
 
 abbrev Inv-loop : tie.InvT-loop
-Inv-loop b₀ from records at₀ i₀ b at i = Running (λ j. endBytes (parcelAt (slotsOf [] records) j)) from slots b₀ i b at
+Inv-loop b₀ from records at₀ i₀ b at i = Running (bytes records) from slots b₀ i b at
 
 abbrev μ-loop : tie.MeasureT-loop
 μ-loop b₀ from records at₀ i₀ b at i = slots - i
 
-abbrev bytes : List ℕ → ℕ → List ℕ
-bytes records j = endBytes (parcelAt (slotsOf [] records) j)
-
 -- what was read of slot i: its bytes, their number, and room for them
-step : (c : tie.After-ends-at Inv-loop μ-loop)
-    → let p = c .before .before in
-    let a = p .before .before .before .args in
-    let l = c .ends-at .result .now in
-    (wordBytes l (length l) ≡ bytes (a .records .now) (p .loop .i)) × (2 * length l ≡ length (bytes (a .records .now) (p .loop .i))) × (p .loop .at + 2 * length l ≤ length (p .loop .b))
-step c =
-    let p = c .before .before in
-    let s = p .before .before .before in
-    let l = c .ends-at .result .now in
-    let w = words-are [] (s .args .records .now) (p .loop .i) (c .ends-at .ensures) in
-    let n = sym (words-size l) ∙ ap length w in
-    let r = running-room (bytes (s .args .records .now)) (s .args .from) slots (s .args .b .now) (p .loop .i) (p .loop .b) (p .loop .at) (omega arith) (s .pre .1) (p .loop .inv) in
-    (w, n, omega (arith, n, r))
+module _ (c : tie.After-ends-at Inv-loop μ-loop) where
+  abbrev start : tie.Start Inv-loop μ-loop
+  start = c .before .before .before .before .before
+
+  abbrev i : ℕ
+  i = c .before .before .loop .i
+
+  abbrev read : List ℕ
+  read = c .ends-at .result .now
+
+  are : wordBytes read (length read) ≡ bytes (start .args .records .now) i
+  are = ap (λ (l : List ℕ). wordBytes l (length l)) (c .ends-at .ensures)
+
+  size : 2 * length read ≡ length (bytes (start .args .records .now) i)
+  size = sym (length-same (λ k. u16Bytes (getD read k 0)) 2 (λ k. refl) (length read)) ∙ ap length are
+
+  room : c .before .before .loop .at + 2 * length read ≤ length (c .before .before .loop .b)
+  room =
+      let p = c .before .before in
+      omega (arith, size, running-room (bytes (start .args .records .now)) (start .args .from) slots (start .args .b .now) i (p .loop .b) (p .loop .at) (omega arith) (start .pre .1) (p .loop .inv))
 
 loop-holds : tie.Need-loop-holds Inv-loop μ-loop
 loop-holds c = running-none _ _ _ _
 
 ends-at-requires : tie.Need-ends-at-requires Inv-loop μ-loop
-ends-at-requires c κs =
-    let p = c .before in
-    let s = p .before .before .before in
-    (s .pre .0 .record-list, omega arith, s .pre .0 .few (p .loop .i) (omega arith))
+ends-at-requires c κs = let p = c .before in p .before .before .before .pre .0 .counted (p .loop .i) (omega arith)
 
 put-words-requires : tie.Need-put-words-requires Inv-loop μ-loop
-put-words-requires c κs = step (c .before) .2
+put-words-requires c κs = room (c .before)
 
 mul-at : tie.Need-mul-at Inv-loop μ-loop
 mul-at c = search needs
 
 add-at : tie.Need-add-at Inv-loop μ-loop
-add-at c = record { fits = omega (arith, step (c .before .before .before .before) .2, c .before .before .put-words .kept .0) }
+add-at c = record { fits = omega (arith, room (c .before .before .before .before), c .before .before .put-words .kept .0) }
 
 add-i : tie.Need-add-i Inv-loop μ-loop
 add-i c = search needs
@@ -72,9 +71,8 @@ loop-again c =
     let e = q .before .before in
     let p = e .before .before in
     let s = p .before .before .before in
-    let w = step e in
     running-more (bytes (s .args .records .now)) (s .args .from) slots (s .args .b .now) (p .loop .i) (p .loop .b) (p .loop .at) (omega arith) (p .loop .inv)
-    (q .put-words .ensures ∙ ap (placed (p .loop .b) (p .loop .at)) (w .0)) (ap (λ (n : ℕ). p .loop .at + n) (w .1))
+    (q .put-words .ensures ∙ ap (placed (p .loop .b) (p .loop .at)) (are e)) (ap (λ (n : ℕ). p .loop .at + n) (size e))
 
 same-length : tie.Need-same-length Inv-loop μ-loop
 same-length c = search needs

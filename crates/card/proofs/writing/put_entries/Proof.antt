@@ -1,20 +1,20 @@
-use mathlib.Core.List.{[]}
-use Prim.Native.Nat.{_-_}
+use mathlib.Core.Bool.{not}
+use mathlib.Core.List.{List}
+use Prim.Native.Nat.{ℕ, _-_}
 use native.Mathlib.Omega.{arith}
-use Rattle.slots.specs.Layout.{slots}
-use Rattle.slots.specs.Slots.{parcelAt}
-use Rattle.slots.specs.Steps.{slotsOf}
-use Rattle.card.specs.Write.{entryBytes}
+use Rattle.layout.specs.Sheet.{slots}
+use Rattle.layout.specs.Slots.{ringsIn, emptyIn}
 use Rattle.endian.proofs.Running.{Running, running-none, running-room, running-more, running-all}
+use Rattle.card.specs.Write.{entryBytes}
 use borrow.Author.Needs.{needs}
 use Rattle.card.proofs.writing.put_entries.Statement.{statement}
 use Rattle.card.proofs.writing.put_entries.Tie as tie
-use Rattle.card.proofs.writing.put_entries.Reads as reads
-use Rattle.card.proofs.writing.put_entries.Lts as lts
-use Rattle.card.proofs.writing.put_entry.Reads as put-entry-reads
+
+abbrev entry : List ℕ → ℕ → List ℕ
+entry records j = entryBytes j (not (emptyIn records j)) (ringsIn records j)
 
 abbrev Inv-loop : tie.InvT-loop
-Inv-loop b₀ from records at₀ i₀ b at i = Running (λ j. entryBytes j (parcelAt (slotsOf [] records) j)) from slots b₀ i b at
+Inv-loop b₀ from records at₀ i₀ b at i = Running (entry records) from slots b₀ i b at
 
 abbrev μ-loop : tie.MeasureT-loop
 μ-loop b₀ from records at₀ i₀ b at i = slots - i
@@ -26,7 +26,7 @@ put-entry-requires : tie.Need-put-entry-requires Inv-loop μ-loop
 put-entry-requires c κs =
     let p = c .before .before in
     let s = p .before .before .before in
-    (s .pre .0, omega arith, running-room (λ j. entryBytes j (parcelAt (slotsOf [] (s .args .records .now)) j)) (s .args .from) slots (s .args .b .now) (p .loop .i) (p .loop .b) (p .loop .at) (omega arith) (s .pre .1) (p .loop .inv))
+    (s .pre .0 .counted (p .loop .i) (omega arith), running-room (entry (s .args .records .now)) (s .args .from) slots (s .args .b .now) (p .loop .i) (p .loop .b) (p .loop .at) (omega arith) (s .pre .1) (p .loop .inv))
 
 add-i : tie.Need-add-i Inv-loop μ-loop
 add-i c = search needs
@@ -39,7 +39,7 @@ loop-again c =
     let q = c .before .before in
     let p = q .before .before .before in
     let s = p .before .before .before in
-    running-more (λ j. entryBytes j (parcelAt (slotsOf [] (s .args .records .now)) j)) (s .args .from) slots (s .args .b .now) (p .loop .i) (p .loop .b) (p .loop .at) (omega arith) (p .loop .inv) (q .put-entry .ensures .1) (q .put-entry .ensures .0)
+    running-more (entry (s .args .records .now)) (s .args .from) slots (s .args .b .now) (p .loop .i) (p .loop .b) (p .loop .at) (omega arith) (p .loop .inv) (q .put-entry .ensures .1) (q .put-entry .ensures .0)
 
 same-length : tie.Need-same-length Inv-loop μ-loop
 same-length c = search needs
@@ -48,7 +48,7 @@ returns : tie.Need-returns Inv-loop μ-loop
 returns c =
     let p = c .before in
     let s = p .before .before .before in
-    let r = running-all (λ j. entryBytes j (parcelAt (slotsOf [] (s .args .records .now)) j)) (s .args .from) slots (s .args .b .now) (p .loop .i) (p .loop .b) (p .loop .at) (omega arith) (p .loop .inv) in
+    let r = running-all (entry (s .args .records .now)) (s .args .from) slots (s .args .b .now) (p .loop .i) (p .loop .b) (p .loop .at) (omega arith) (p .loop .inv) in
     (r .1, r .0)
 
 pub put-entries-spec : {M : Type 1} → statement M

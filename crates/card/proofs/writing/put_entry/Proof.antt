@@ -1,46 +1,45 @@
-use mathlib.Core.Path.{_≡_, sym, _∙_, ap}
+use mathlib.Core.Path.{_≡_, refl, sym, _∙_, ap}
+use mathlib.Core.Bool.{not}
 use mathlib.Core.List.{List, [], _++_}
 use Prim.Native.Nat.{ℕ, _+_, _≤_}
 use native.Mathlib.Omega.{arith}
 use lib.ListN.{length}
-use Rattle.slots.specs.Slots.{parcelAt}
-use Rattle.slots.specs.Steps.{slotsOf}
+use borrow.Author.Tests.{eq-eqb, ne-eqb}
+use Rattle.layout.specs.Slots.{ringsIn, emptyIn}
 use Rattle.endian.specs.Bytes.{u16Bytes}
-use Rattle.card.specs.Write.{entryBytes}
 use Rattle.endian.specs.Placed.{placed}
 use Rattle.endian.proofs.Placed.{placed-append}
-use Rattle.card.proofs.Parts.{entry-none, entry-some}
+use Rattle.card.specs.Write.{entryBytes}
 use borrow.Author.Needs.{needs}
 use Rattle.card.proofs.writing.put_entry.Statement.{statement}
 use Rattle.card.proofs.writing.put_entry.Tie as tie
-use Rattle.card.proofs.writing.put_entry.Reads as reads
-use Rattle.card.proofs.writing.put_entry.Lts as lts
-use Rattle.endian.proofs.put_u16.Reads as put-u16-reads
-use Rattle.slots.proofs.storage.ring_count.Reads as ring-count-reads
+
+abbrev entry : List ℕ → ℕ → List ℕ
+entry records slot = entryBytes slot (not (emptyIn records slot)) (ringsIn records slot)
 
 -- the slot is not empty
-there : (c : tie.Else1)
-    → let a = c .before .before .before .before .args in
-    entryBytes (a .slot) (parcelAt (slotsOf [] (a .records .now)) (a .slot)) ≡ u16Bytes (a .slot) ++ u16Bytes (c .before .ring-count .result)
-there c =
-    let s = c .before .before .before .before in
-    entry-some [] (s .args .records .now) (s .args .slot) (s .pre .0) (s .pre .1) (c .before .ring-count .ensures) (c .if1 .left)
+module _ (c : tie.Else1) where
+  there : let a = c .before .before .before .before .args in entry (a .records .now) (a .slot) ≡ u16Bytes (a .slot) ++ u16Bytes (c .before .ring-count .result)
+  there =
+      let a = c .before .before .before .before .args in
+      rw (ne-eqb (ringsIn (a .records .now) (a .slot)) 0 (λ q. c .if1 .left (c .before .ring-count .ensures ∙ q)))
+      (ap (λ (n : ℕ). u16Bytes (a .slot) ++ u16Bytes n) (sym (c .before .ring-count .ensures)))
 
-room : (c : tie.Else1) → let a = c .before .before .before .before .args in a .at + 4 ≤ length (a .b .now)
-room c = omega (arith, c .before .before .before .before .pre .2, ap length (there c))
+  room : let a = c .before .before .before .before .args in a .at + 4 ≤ length (a .b .now)
+  room = omega (arith, c .before .before .before .before .pre .1, ap length there)
 
 ring-count-requires : tie.Need-ring-count-requires
-ring-count-requires c κs = search needs
+ring-count-requires c κs = let p = c .before .before .pre .0 in (p .record-list, p .slot-in)
 
 returns : tie.Need-returns
 unfolding placed
 returns c =
-    let s = c .before .before .before .before in
-    let e = entry-none [] (s .args .records .now) (s .args .slot) (s .pre .0) (s .pre .1) (c .before .ring-count .ensures) (c .if1 .taken) in
-    (omega (arith, ap length e), ap (placed (s .args .b .now) (s .args .at)) (sym e))
+    let a = c .before .before .before .before .args in
+    let none : entry (a .records .now) (a .slot) ≡ [] = rw (eq-eqb (ringsIn (a .records .now) (a .slot)) 0 (sym (c .before .ring-count .ensures) ∙ c .if1 .taken)) refl in
+    (omega (arith, ap length none), ap (placed (a .b .now) (a .at)) (sym none))
 
 cast-put-u16 : tie.Need-cast-put-u16
-cast-put-u16 c = search needs
+cast-put-u16 c = record { fits = omega (arith, c .before .before .before .before .before .pre .0 .slot-in) }
 
 put-u16-requires : tie.Need-put-u16-requires
 put-u16-requires c κs = omega (arith, room (c .before))
@@ -51,8 +50,7 @@ add-put-u16 c = search needs
 cast-put-u16-2 : tie.Need-cast-put-u16-2
 cast-put-u16-2 c =
     let r = c .before .before .before .before .before .before in
-    let s = r .before .before .before in
-    record { fits = omega (arith, r .ring-count .ensures, s .pre .0 .few (s .args .slot) (s .pre .1)) }
+    record { fits = omega (arith, r .ring-count .ensures, r .before .before .before .pre .0 .few) }
 
 put-u16-requires-2 : tie.Need-put-u16-requires-2
 put-u16-requires-2 c κs = omega (arith, room (c .before .before .before .before .before), c .before .before .before .put-u16 .kept .0)
