@@ -1,6 +1,5 @@
 -- A point of an edge belongs to a tile exactly where the point of the moved edge with the same weights lies inside the tile: for
 -- coordinates in range and a box whose west is at most its east and whose south is at most its north.
---   Carried           each part of the clauses, in one axis, over coordinates and in places;  carried  they agree
 --   equal-ends        whether the ends are equal;  apart-places  they differ exactly where their places do
 --   MovedPoint p t    the point p of the moved edge lies strictly inside tile t of the doubled box
 --   meets-point       there the moved edge meets the tile, with the weights of p
@@ -28,15 +27,15 @@ use Rattle.edge.proofs.MovedEdge.{doubledBox, movedEdge}
 use Rattle.edge.proofs.Weights.{fraction, rest, rest-pos, rest-sum, rest-of, InCol, Meets, EqualEnds, On, Past, Short}
 use Rattle.edge.proofs.MovedAxis.{Strip, columnStrip, rowStrip, MovedAt, moved-across, moved-off, moved-past, moved-short}
 
--- ---- one axis: a range c of the lines lo and hi, an edge from a to b
-pub record Carried (c : ℕ) (lo hi a b : ℤ) : Type 0 where
-  pub same : (a ≡ b) ↔ (placeOf a ≡ placeOf b)
-  pub rising : (a <ℤ b) ↔ (placeOf a < placeOf b)
-  pub falling : (b <ℤ a) ↔ (placeOf b < placeOf a)
-  pub along-line : ((a ≡ b) × ((a ≡ lo) ⊎ (a ≡ hi))) ↔ ((placeOf a ≡ placeOf b) × On (placeOf a) (placeOf lo) (placeOf hi))
-  pub after : After lo hi a c ↔ Past (placeOf lo) (placeOf hi) (placeOf a) c
-  pub before : Before lo hi a c ↔ Short (placeOf lo) (placeOf hi) (placeOf a) c
-  pub point : (p : Fraction) → Inside c lo hi (p .n) (along (p .n) (p .k) a b) ↔ InCol c (placeOf lo) (placeOf hi) (rest p + p .k) (rest p * placeOf a + p .k * placeOf b)
+-- ---- one axis: a range c of the lines lo and hi, an edge from a to b. Each part of the clauses, over coordinates and in places
+record Carried (c : ℕ) (lo hi a b : ℤ) : Type 0 where
+  same : (a ≡ b) ↔ (placeOf a ≡ placeOf b)
+  rising : (a <ℤ b) ↔ (placeOf a < placeOf b)
+  falling : (b <ℤ a) ↔ (placeOf b < placeOf a)
+  along-line : ((a ≡ b) × ((a ≡ lo) ⊎ (a ≡ hi))) ↔ ((placeOf a ≡ placeOf b) × On (placeOf a) (placeOf lo) (placeOf hi))
+  after : After lo hi a c ↔ Past (placeOf lo) (placeOf hi) (placeOf a) c
+  before : Before lo hi a c ↔ Short (placeOf lo) (placeOf hi) (placeOf a) c
+  point : (p : Fraction) → Inside c lo hi (p .n) (along (p .n) (p .k) a b) ↔ InCol c (placeOf lo) (placeOf hi) (rest p + p .k) (rest p * placeOf a + p .k * placeOf b)
 
 module _ (lo hi a b : ℤ) (hl : inRange lo ≡ true) (hh : inRange hi ≡ true) (ha : inRange a ≡ true) (hb : inRange b ≡ true) where
   inside-place : (j k c : ℕ) → Inside c lo hi (j + k) (along (j + k) k a b) ↔ InCol c (placeOf lo) (placeOf hi) (j + k) (j * placeOf a + k * placeOf b)
@@ -53,7 +52,7 @@ module _ (lo hi a b : ℤ) (hl : inRange lo ≡ true) (hh : inRange hi ≡ true)
       let first = place-eq a p ha hp in
       iff-or (λ x. (first .0 (x .0), order .0 (x .1), x .2), λ x. (first .1 (x .0), order .1 (x .1), x .2)) (iff-and (place-eq a q ha hq) (λ x. x, λ x. x))
 
-  pub carried : (c : ℕ) → Carried c lo hi a b
+  carried : (c : ℕ) → Carried c lo hi a b
   carried c =
       record {
         same = place-eq a b ha hb;

@@ -17,7 +17,6 @@ use Rattle.plane.specs.TileSet.{setOf}
 use Rattle.plane.specs.declared.Box.{Box}
 use Rattle.plane.specs.declared.Edge.{Edge}
 use Rattle.plane.proofs.Logic.{never}
-use Rattle.edge.specs.declared.Walk.{Walk}
 use Rattle.edge.specs.Clauses.{HasTile}
 use Rattle.edge.specs.Cuts.{PiecesOf}
 use Rattle.edge.specs.TileList.{countIn, tileIn, standsIn}

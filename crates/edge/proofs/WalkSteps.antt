@@ -1,8 +1,8 @@
 -- The steps of a walk: their bounds, and what each answer of the code comes to.
 --   next-first, next-second, next-end    the next line after c lines
---   enter-fits, step-fits    a step adds at most one tile
+--   enter-fits, step-fits, fits-more    a step adds at most one tile, and four are few enough
 --   step-x, step-y, step-both, step-none    the four answers of a step
---   done-x, done-y, done-all    the answers of `doneOf`;  done-step  where no line is left a step does nothing
+--   done-x, done-y, done-all    the answers of `doneOf`
 --   ended-0, ended-1, ended-2, ended-4    a walk that is done after so many steps has ended
 --   list-none, list-some    the list of an edge with equal ends, and of any other
 use mathlib.Core.Path.{_≡_, refl, sym}
@@ -18,12 +18,11 @@ use Rattle.plane.specs.Choice.{pick}
 use Rattle.plane.specs.declared.Box.{Box}
 use Rattle.plane.specs.declared.Edge.{Edge}
 use Rattle.plane.proofs.Logic.{and-means, not-means, is-false}
-use Rattle.plane.proofs.TileSet.{bit-le}
 use Rattle.edge.specs.declared.Moment.{Moment}
 use Rattle.edge.specs.declared.Axis.{Axis}
 use Rattle.edge.specs.declared.State.{State}
 use Rattle.edge.specs.Moments.{endMoment, sooner, AxisFits}
-use Rattle.edge.specs.Walk.{axisX, axisY, nextMoment, linesAtStart, linesPast, rangeAfter, tileOf, enterOf, leftOf, stepOf, doneOf, beginOf, stateOf, listOf, StateFits}
+use Rattle.edge.specs.Walk.{axisX, axisY, nextMoment, linesPast, rangeAfter, tileOf, enterOf, leftOf, stepOf, doneOf, beginOf, stateOf, listOf, StateFits}
 use Rattle.edge.proofs.Weights.{EqualEnds}
 use Rattle.edge.proofs.Moments.{next-fits}
 
@@ -51,15 +50,6 @@ past-le x c = go (eqb c 0) (ltb (x .first) (x .second))
     go true true = omega arith
     go true false = omega arith
     go false b = omega arith
-
-start-le : (x : Axis) → linesAtStart x ≤ 2
-unfolding linesAtStart
-start-le x = go (ltb 0 (x .first)) (ltb 0 (x .second))
-  where
-    go : (a b : Bool) → pick {A = ℕ} a 0 (pick {A = ℕ} b 1 2) ≤ 2
-    go true b = omega arith
-    go false true = omega arith
-    go false false = omega arith
 
 range-le : (down : Bool) (c : ℕ) → c ≤ 2 → rangeAfter down c ≤ 2
 unfolding rangeAfter
@@ -135,7 +125,7 @@ none-sooner : (m o : Moment) → m .n ≤ m .k → o .k ≤ o .n → sooner m o 
 unfolding sooner
 none-sooner m o h i = le-ltb (m .k * o .n) (o .k * m .n) (omega (arith, mul-le-mul i h))
 
-pub done-step : (x y : Axis) (most : ℕ) (s : State) → AxisFits x most → AxisFits y most → doneOf x y s ≡ true → stepOf x y s ≡ s
+done-step : (x y : Axis) (most : ℕ) (s : State) → AxisFits x most → AxisFits y most → doneOf x y s ≡ true → stepOf x y s ≡ s
 unfolding doneOf
 done-step x y most s fits-x fits-y h =
     let p = nextMoment x (s .upright) in
