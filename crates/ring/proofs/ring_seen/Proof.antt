@@ -1,5 +1,6 @@
+-- The third clause adds B where the ring covers the box and encloses its centre, and nothing where it does not or B is there already.
 use mathlib.Core.Path.{_≡_, refl, sym, _∙_, ap}
-use mathlib.Core.Bool.{Bool, true, false, not}
+use mathlib.Core.Bool.{true, false}
 use mathlib.Core.List.{List}
 use Prim.Native.Nat.{ℕ}
 use native.Mathlib.Omega.{arith}
@@ -19,39 +20,42 @@ use Rattle.ring.proofs.Pass.{without-centre, there-already, with-centre
 use Rattle.ring.proofs.ring_seen.Statement.{statement}
 use Rattle.ring.proofs.ring_seen.Tie as tie
 
-module _ (b : Box) (xs : List ℤ) (from n : ℕ) (p : Seen) (e : p ≡ edgesSeen b xs from n) where
-  same-set : setOf (edgesHave b xs from n) 9 ≡ setOf (ringHas b xs from n) 9 → p ≡ ringSeen b xs from n
-  same-set q = e ∙ (λ i. record { set = q i; pieces = edgesSeen b xs from n .pieces })
-
-  already : bit (p .set) 4 ≡ 1 → p ≡ ringSeen b xs from n
-  already h = same-set (there-already b xs from n (set-means (edgesHave b xs from n) 9 4 (omega arith) .0 (ap (λ (q : Seen). bit (q .set) 4) (sym e) ∙ h)))
-
-  module _ (k : Box) (f : k ≡ stretchBox xs from n) (t : Bool) (g : t ≡ covers k b) where
-    covering : t ≡ covers (stretchBox xs from n) b
-    covering = g ∙ ap (λ (x : Box). covers x b) f
-
-    not-covering : not t ≡ true → p ≡ ringSeen b xs from n
-    not-covering h = same-set (without-centre b xs from n (rw (sym covering ∙ not-true t h) refl))
-
-    module _ (yes-covering : not t ≡ false) (u : Bool) (w : u ≡ encloses b xs from n) where
-      covered : covers (stretchBox xs from n) b ≡ true
-      covered = sym covering ∙ not-false t yes-covering
-
-      not-enclosed : not u ≡ true → p ≡ ringSeen b xs from n
-      not-enclosed h = same-set (without-centre b xs from n (rw (covered, sym w ∙ not-true u h) refl))
-
-      enclosed : not u ≡ false → _≡_ {A = Seen} (record { set = bitOr (p .set) 16; pieces = p .pieces }) (ringSeen b xs from n)
-      enclosed h =
-          ap (λ (q : Seen). record { set = bitOr (q .set) 16; pieces = q .pieces }) e
-          ∙ (λ i. record { set = with-centre b xs from n (rw (covered, sym w ∙ not-false u h) refl) i; pieces = edgesSeen b xs from n .pieces })
-
 edges-seen-requires : tie.Need-edges-seen-requires
 edges-seen-requires c κs = search needs
 
+-- ---- with what the edges show
+module _ (c : tie.After-edges-seen) where
+  abbrev b : Box
+  b = c .before .args .b
+
+  abbrev xs : List ℤ
+  xs = c .before .args .xs .now
+
+  abbrev from : ℕ
+  from = c .before .args .from
+
+  abbrev n : ℕ
+  n = c .before .args .n
+
+  abbrev Answer : Seen → Type 0
+  Answer s = s ≡ ringSeen b xs from n
+
+  -- nothing is added
+  same-set : setOf (edgesHave b xs from n) 9 ≡ setOf (ringHas b xs from n) 9 → Answer (c .edges-seen .result)
+  same-set q = c .edges-seen .ensures ∙ (λ i. record { set = q i; pieces = edgesSeen b xs from n .pieces })
+
+  already : bit (c .edges-seen .result .set) 4 ≡ 1 → Answer (c .edges-seen .result)
+  already h =
+      same-set (there-already b xs from n (set-means (edgesHave b xs from n) 9 4 (omega arith) .0 (ap (λ (s : Seen). bit (s .set) 4) (sym (c .edges-seen .ensures)) ∙ h)))
+
+  -- B is added
+  with-b : covers (stretchBox xs from n) b ≡ true → encloses b xs from n ≡ true → Answer (record { set = bitOr (c .edges-seen .result .set) 16; pieces = c .edges-seen .result .pieces })
+  with-b h i =
+      ap (λ (s : Seen). record { set = bitOr (s .set) 16; pieces = s .pieces }) (c .edges-seen .ensures)
+      ∙ (λ j. record { set = with-centre b xs from n (rw (h, i) refl) j; pieces = edgesSeen b xs from n .pieces })
+
 returns : tie.Need-returns
-returns c =
-    let a = c .before .before .before .args in
-    already (a .b) (a .xs .now) (a .from) (a .n) (c .before .before .edges-seen .result) (c .before .before .edges-seen .ensures) (c .if1 .taken)
+returns c = already (c .before .before) (c .if1 .taken)
 
 stretch-box-requires : tie.Need-stretch-box-requires
 stretch-box-requires c κs = search needs
@@ -59,34 +63,38 @@ stretch-box-requires c κs = search needs
 covers-box-requires : tie.Need-covers-box-requires
 covers-box-requires c κs = search needs
 
+-- ---- with whether the ring covers the box
+module _ (c : tie.After-covers-box) where
+  abbrev edges : tie.After-edges-seen
+  edges = c .before .before .before .before
+
+  covering : c .covers-box .result ≡ covers (stretchBox (xs edges) (from edges) (n edges)) (b edges)
+  covering = c .covers-box .ensures ∙ ap (λ (k : Box). covers k (b edges)) (c .before .stretch-box .ensures)
+
 returns-2 : tie.Need-returns-2
 returns-2 c =
-    let a = c .before .before .before .before .before .before .args in
-    let p = c .before .before .before .before .before .edges-seen in
-    let k = c .before .before .stretch-box in
-    let t = c .before .covers-box in
-    not-covering (a .b) (a .xs .now) (a .from) (a .n) (p .result) (p .ensures) (k .result) (k .ensures) (t .result) (t .ensures) (c .if2 .taken)
+    let v = c .before in
+    let e = edges v in
+    same-set e (without-centre (b e) (xs e) (from e) (n e) (rw (sym (covering v) ∙ not-true (v .covers-box .result) (c .if2 .taken)) refl))
 
 ring-encloses-requires : tie.Need-ring-encloses-requires
 ring-encloses-requires c κs = search needs
 
+-- ---- with whether it encloses the centre
+module _ (c : tie.After-ring-encloses) where
+  covered : let e = edges (c .before .before) in covers (stretchBox (xs e) (from e) (n e)) (b e) ≡ true
+  covered = let v = c .before .before in sym (covering v) ∙ not-false (v .covers-box .result) (c .before .if2 .left)
+
 returns-3 : tie.Need-returns-3
 returns-3 c =
-    let a = c .before .before .before .before .before .before .before .before .args in
-    let p = c .before .before .before .before .before .before .before .edges-seen in
-    let k = c .before .before .before .before .stretch-box in
-    let t = c .before .before .before .covers-box in
-    let u = c .before .ring-encloses in
-    not-enclosed (a .b) (a .xs .now) (a .from) (a .n) (p .result) (p .ensures) (k .result) (k .ensures) (t .result) (t .ensures) (c .before .before .if2 .left) (u .result) (u .ensures) (c .if3 .taken)
+    let r = c .before in
+    let e = edges (r .before .before) in
+    same-set e (without-centre (b e) (xs e) (from e) (n e) (rw (covered r, sym (r .ring-encloses .ensures) ∙ not-true (r .ring-encloses .result) (c .if3 .taken)) refl))
 
 returns-4 : tie.Need-returns-4
 returns-4 c =
-    let a = c .before .before .before .before .before .before .before .before .before .args in
-    let p = c .before .before .before .before .before .before .before .before .edges-seen in
-    let k = c .before .before .before .before .before .stretch-box in
-    let t = c .before .before .before .before .covers-box in
-    let u = c .before .before .ring-encloses in
-    enclosed (a .b) (a .xs .now) (a .from) (a .n) (p .result) (p .ensures) (k .result) (k .ensures) (t .result) (t .ensures) (c .before .before .before .if2 .left) (u .result) (u .ensures) (c .before .if3 .left)
+    let r = c .before .before in
+    with-b (edges (r .before .before)) (covered r) (sym (r .ring-encloses .ensures) ∙ not-false (r .ring-encloses .result) (c .before .if3 .left))
 
 pub ring-seen-spec : {M : Type 1} → statement M
 ring-seen-spec =
