@@ -3,4 +3,5 @@ pub mod Sums
 pub mod Tests
 pub mod Bounds
 pub mod Good
+pub mod Numbers
 pub mod Only
