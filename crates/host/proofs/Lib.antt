@@ -1,2 +1,5 @@
 mod Report
+mod Words
+pub mod Meaning
+pub mod Call
 pub mod Only

@@ -1,0 +1,278 @@
+-- What the call for the C host answers, exactly when. The first region is that of the card's parcel 0, the second that of parcel 1; their pair answer
+-- is explained field by field in pair/proofs (Laws, Cells, Directions, Compass).
+-- The number:
+--   Reported               the report has room for 38 bytes, the card is good and has two parcels
+--   number-none-means      the number is 0 exactly then
+--   number-short-means     it is 10 exactly when the report has less room
+--   number-own-means       it is one of the numbers of a card (2 to 7, 14, 15, 16) exactly when the report has room and the card has that number
+--   number-not-good        which it has wherever the report has room and the card is not good
+--   number-count-means     it is 17 exactly when the report has room and the card is good, but has not two parcels
+--   number-either          it is 0, 10, 17 or one of the numbers of a card, and no other: 13 never comes
+-- The report:
+--   report-kept            beside a number that is not 0 it is as it was found
+--   report-length          it is always as long as it was
+--   report-behind          its bytes past 38 are as they were found
+--   report-reads           where the number is 0, number k read from it is number k of the pair answer's 19
+--   report-named           the first three, number, region and ring, are 0
+--   ReportHas, report-has  the other sixteen, one by one, with the byte at which each begins
+--   report-tile            bit t of its number 3 is 1 exactly when the first region has tile t of the second's box;  report-back-tile  bit t of number
+--                          4 exactly when the second has tile t of the first's
+use mathlib.Core.Path.{_≡_, refl, sym, _∙_, ap, subst}
+use mathlib.Core.Logic.{_↔_, _⊎_, _≢_, inl, inr, ⊎-elim}
+use mathlib.Core.List.{List, [], _∷_, _++_}
+use Prim.Native.Nat.{ℕ, _+_, _-_, _*_, _/_, _%_, _≤_, _<_}
+use native.Mathlib.Omega.{arith}
+use native.Mathlib.Decide.{decLt, ℕ-discrete}
+use lib.ListN.{length, getD, drop, length-append, length-drop, List·getD-append, List·getD-eq-default}
+use lib.Seq.{getD-append-add, getD-drop}
+use borrow.Author.Tests.{eq-eqb, ne-eqb}
+use Rattle.plane.specs.Points.{Lines}
+use Rattle.plane.specs.TileSet.{bit}
+use Rattle.plane.proofs.Lists.{length-tab}
+use Rattle.outline.specs.Region.{Region, lastEnd}
+use Rattle.outline.specs.Rules.{KeepsRules}
+use Rattle.outline.proofs.Keeps.{keeps-fewer, sized}
+use Rattle.relation.specs.Relation.{RegionBox, RegionHas}
+use Rattle.matrix.specs.Matrix.{flatOf}
+use Rattle.pair.specs.declared.Answer.{Answer}
+use Rattle.pair.specs.Answer.{given, pairOf, reportWords}
+use Rattle.pair.proofs.Laws.{Answered, number-means, fields-are, tile-means, back-tile-means, pieces-between, back-pieces-between, relation-below, back-relation-below}
+use Rattle.pair.proofs.Refusals.{answered-named}
+use Rattle.pair.proofs.Cells.{cellOf, rows-between, columns-between, cell-most}
+use Rattle.pair.proofs.Directions.{directions-below}
+use Rattle.endian.specs.Bytes.{u16At, u16Bytes}
+use Rattle.endian.proofs.Placed.{length-same}
+use Rattle.parcels.specs.Reading.{parcelCount, regionAt}
+use Rattle.parcels.specs.CardNumber.{cardNumber}
+use Rattle.parcels.specs.Good.{GoodCard}
+use Rattle.parcels.specs.Pairs.{pairIn}
+use Rattle.parcels.proofs.Good.{good-means}
+use Rattle.parcels.proofs.Numbers.{CardsOwn, card-number-either, not-good-means}
+use Rattle.host.specs.Report.{reportNumbers, reportLength, reportBytes, hostNumber, hostReport}
+use Rattle.host.proofs.Report.{report-short, report-card, report-parcels, report-done}
+use Rattle.host.proofs.Words.{word-read, Small, small-none, small-more, small-append}
+
+own-some : (n m : ℕ) → CardsOwn n → n ≡ m → (m ≢ 0) × (m ≢ 10) × (m ≢ 17)
+own-some n m (inl p) e = (λ q. omega (arith, p .0), λ q. omega (arith, p .1), λ q. omega (arith, p .1))
+own-some n m (inr p) e = (λ q. omega (arith, p .0), λ q. omega (arith, p .0), λ q. omega (arith, p .1))
+
+-- ---- the numbers of a report after the first three, with the byte at which each begins
+pub record ReportHas (b : List ℕ) (a : Answer) : Type 0 where
+  pub first : u16At b 6 ≡ a .first
+  pub second : u16At b 8 ≡ a .second
+  pub rows : u16At b 10 ≡ a .rows
+  pub columns : u16At b 12 ≡ a .columns
+  pub cells : (i j : ℕ) → i < 3 → j < 3 → u16At b (14 + 2 * (3 * i + j)) ≡ cellOf a i j
+  pub directions : u16At b 32 ≡ a .directions
+  pub first-pieces : u16At b 34 ≡ a .«first_pieces»
+  pub second-pieces : u16At b 36 ≡ a .«second_pieces»
+
+module _ (a : Answer) (nine : length (a .cells) ≡ 9) where
+  abbrev last : List ℕ
+  last = a .directions ∷ a .«first_pieces» ∷ a .«second_pieces» ∷ []
+
+  seven-on : (k : ℕ) → getD (reportWords a) (7 + k) 0 ≡ getD (a .cells ++ last) k 0
+  seven-on k = getD-append-add (a .number ∷ a .region ∷ a .ring ∷ a .first ∷ a .second ∷ a .rows ∷ a .columns ∷ []) (a .cells ++ last) k 0
+
+  word-cell : (k : ℕ) → k < 9 → getD (reportWords a) (7 + k) 0 ≡ getD (a .cells) k 0
+  word-cell k l = seven-on k ∙ List·getD-append (a .cells) last 0 k (omega (arith, nine))
+
+  word-last : (k : ℕ) → getD (reportWords a) (16 + k) 0 ≡ getD last k 0
+  word-last k =
+      let e : 16 + k ≡ 7 + (length (a .cells) + k) = omega (arith, nine) in
+      ap (λ (n : ℕ). getD (reportWords a) n 0) e ∙ seven-on (length (a .cells) + k) ∙ getD-append-add (a .cells) last k 0
+
+module _ (card report : List ℕ) where
+  abbrev first : Region
+  first = regionAt card 0
+
+  abbrev second : Region
+  second = regionAt card 1
+
+  abbrev answer : Answer
+  answer = pairOf first second
+
+  pub record Reported : Type 0 where
+    pub room : reportLength ≤ length report
+    pub good : GoodCard card
+    pub two : parcelCount card ≡ 2
+
+  pub answered : Reported → Answered first second
+  answered r = record { first-kept = r .good .parcels-keep 0 (omega (arith, r .two)); second-kept = r .good .parcels-keep 1 (omega (arith, r .two)) }
+
+  -- ---- the number, by cases
+  data Says : ℕ → Type 0 where
+    short : length report < reportLength → Says 10
+    own : reportLength ≤ length report → CardsOwn (cardNumber card) → Says (cardNumber card)
+    other : reportLength ≤ length report → GoodCard card → parcelCount card ≢ 2 → Says 17
+    done : Reported → Says 0
+
+  accepted : Reported → 0 ≡ hostNumber card report
+  unfolding pairIn
+  accepted r = report-done card report (r .room) (good-means card .1 (r .good)) (r .two) {a = answer} refl (number-means first second .1 (answered r)) refl .0
+
+  says : Says (hostNumber card report)
+  says =
+      elim (decLt (length report) reportLength) [
+        | yes l ↦ subst Says (report-short card report l .0) (short l)
+        | no l ↦ (let room : reportLength ≤ length report = omega arith in ⊎-elim (counted room) (refused room) (card-number-either card))
+      ]
+    where
+      refused : reportLength ≤ length report → CardsOwn (cardNumber card) → Says (hostNumber card report)
+      refused room o = subst Says (report-card card report room refl (own-some _ _ o refl .0) .0) (own room o)
+
+      counted : reportLength ≤ length report → cardNumber card ≡ 0 → Says (hostNumber card report)
+      counted room z =
+          elim (ℕ-discrete (parcelCount card) 2) [
+            | yes e ↦ (let r : Reported = record { room = room; good = good-means card .0 z; two = e } in subst Says (accepted r) (done r))
+            | no e ↦ subst Says (report-parcels card report room z e .0) (other room (good-means card .0 z) e)
+          ]
+
+  pub number-none-means : (hostNumber card report ≡ 0) ↔ Reported
+  number-none-means = go says
+    where
+      go : {n : ℕ} → Says n → (n ≡ 0) ↔ Reported
+      go (short l) = (λ e. absurd (omega arith), λ r. absurd (omega (arith, r .room)))
+      go (own room o) = (λ e. absurd (own-some _ _ o e .0 refl), λ r. absurd (not-good-means card .0 o (r .good)))
+      go (other room g e) = (λ z. absurd (omega arith), λ r. absurd (e (r .two)))
+      go (done r) = (λ e. r, λ q. refl)
+
+  pub number-short-means : (hostNumber card report ≡ 10) ↔ (length report < reportLength)
+  number-short-means = go says
+    where
+      go : {n : ℕ} → Says n → (n ≡ 10) ↔ (length report < reportLength)
+      go (short l) = (λ e. l, λ h. refl)
+      go (own room o) = (λ e. absurd (own-some _ _ o e .1 refl), λ h. absurd (omega arith))
+      go (other room g e) = (λ z. absurd (omega arith), λ h. absurd (omega arith))
+      go (done r) = (λ e. absurd (omega arith), λ h. absurd (omega (arith, r .room)))
+
+  pub number-own-means : (m : ℕ) → CardsOwn m → (hostNumber card report ≡ m) ↔ ((reportLength ≤ length report) × (cardNumber card ≡ m))
+  number-own-means m is = go says
+    where
+      go : {n : ℕ} → Says n → (n ≡ m) ↔ ((reportLength ≤ length report) × (cardNumber card ≡ m))
+      go (short l) = (λ e. absurd (own-some m m is refl .1 (sym e)), λ h. absurd (omega (arith, h .0)))
+      go (own room o) = (λ e. (room, e), λ h. h .1)
+      go (other room g e) = (λ z. absurd (own-some m m is refl .2 (sym z)), λ h. absurd (own-some m m is refl .0 (sym (h .1) ∙ good-means card .1 g)))
+      go (done r) = (λ e. absurd (own-some m m is refl .0 (sym e)), λ h. absurd (own-some m m is refl .0 (sym (h .1) ∙ good-means card .1 (r .good))))
+
+  pub number-not-good : reportLength ≤ length report → (GoodCard card → ⊥) → (hostNumber card report ≡ cardNumber card) × CardsOwn (cardNumber card)
+  number-not-good room bad = let o = not-good-means card .1 bad in (number-own-means (cardNumber card) o .1 (room, refl), o)
+
+  pub number-count-means : (hostNumber card report ≡ 17) ↔ ((reportLength ≤ length report) × GoodCard card × (parcelCount card ≢ 2))
+  number-count-means = go says
+    where
+      go : {n : ℕ} → Says n → (n ≡ 17) ↔ ((reportLength ≤ length report) × GoodCard card × (parcelCount card ≢ 2))
+      go (short l) = (λ e. absurd (omega arith), λ h. absurd (omega (arith, h .0)))
+      go (own room o) = (λ e. absurd (own-some _ _ o e .2 refl), λ h. absurd (not-good-means card .0 o (h .1)))
+      go (other room g e) = (λ z. (room, g, e), λ h. refl)
+      go (done r) = (λ e. absurd (omega arith), λ h. absurd (h .2 (r .two)))
+
+  pub number-either : (hostNumber card report ≡ 0) ⊎ ((hostNumber card report ≡ 10) ⊎ ((hostNumber card report ≡ 17) ⊎ CardsOwn (hostNumber card report)))
+  number-either = go says
+    where
+      go : {n : ℕ} → Says n → (n ≡ 0) ⊎ ((n ≡ 10) ⊎ ((n ≡ 17) ⊎ CardsOwn n))
+      go (short l) = inr (inl refl)
+      go (own room o) = inr (inr (inr o))
+      go (other room g e) = inr (inr (inl refl))
+      go (done r) = inl refl
+
+  -- ---- the report
+  pub report-kept : hostNumber card report ≢ 0 → hostReport card report ≡ report
+  unfolding hostReport
+  report-kept some = rw (ne-eqb (hostNumber card report) 0 some) refl
+
+  bytes-long : length (reportBytes answer) ≡ reportLength
+  bytes-long = length-same (λ k. u16Bytes (getD (reportWords answer) k 0)) 2 (λ k. refl) reportNumbers
+
+  report-is : Reported → hostReport card report ≡ reportBytes answer ++ drop reportLength report
+  unfolding hostReport pairIn
+  report-is r = rw (eq-eqb (hostNumber card report) 0 (sym (accepted r))) refl
+
+  pub report-length : length (hostReport card report) ≡ length report
+  report-length = elim (ℕ-discrete (hostNumber card report) 0) [ yes e ↦ whole (number-none-means .0 e) | no e ↦ ap length (report-kept e) ]
+    where
+      whole : Reported → length (hostReport card report) ≡ length report
+      whole r =
+          let e = ap length (report-is r) ∙ length-append (reportBytes answer) (drop reportLength report) in
+          omega (arith, e, bytes-long, length-drop reportLength report, r .room)
+
+  pub report-behind : (i : ℕ) → reportLength ≤ i → getD (hostReport card report) i 0 ≡ getD report i 0
+  report-behind i past =
+      elim (ℕ-discrete (hostNumber card report) 0) [
+        | yes e ↦ whole (number-none-means .0 e)
+        | no e ↦ ap (λ (l : List ℕ). getD l i 0) (report-kept e)
+      ]
+    where
+      whole : Reported → getD (hostReport card report) i 0 ≡ getD report i 0
+      whole r =
+          let there : i ≡ length (reportBytes answer) + (i - reportLength) = omega (arith, bytes-long) in
+          let back : reportLength + (i - reportLength) ≡ i = omega arith in
+          ap (λ (l : List ℕ). getD l i 0) (report-is r)
+          ∙ ap (λ (n : ℕ). getD (reportBytes answer ++ drop reportLength report) n 0) there
+          ∙ getD-append-add (reportBytes answer) (drop reportLength report) (i - reportLength) 0
+          ∙ getD-drop reportLength report (i - reportLength) 0
+          ∙ ap (λ (n : ℕ). getD report n 0) back
+
+  module _ (r : Reported) where
+    cells-long : length (answer .cells) ≡ 9
+    unfolding given flatOf
+    cells-long = ap (λ (a : Answer). length (a .cells)) (fields-are first second (answered r)) ∙ length-tab _ 9
+
+    small-cells : Small (answer .cells)
+    small-cells = record { at = each }
+      where
+        each : (k : ℕ) → getD (answer .cells) k 0 < 65536
+        each k =
+            let e : 3 * (k / 3) + k % 3 ≡ k = omega arith in
+            elim (decLt k 9) [
+              | yes l ↦ omega (arith, ap (λ (n : ℕ). getD (answer .cells) n 0) e, cell-most first second (answered r) (k / 3) (k % 3) (omega arith) (omega arith))
+              | no l ↦ omega (arith, List·getD-eq-default (answer .cells) 0 {n = k} (omega (arith, cells-long)))
+            ]
+
+    few-pieces : {R : Region} {n : ℕ} → KeepsRules R → n ≤ lastEnd (R .ends) * 5 → n < 65536
+    few-pieces kept h = omega (arith, h, sized (keeps-fewer (omega arith) kept) .small)
+
+    small-words : Small (reportWords answer)
+    small-words =
+        let a = answered r in
+        let named = answered-named first second a in
+        small-more (omega (arith, named .0))
+        (small-more (omega (arith, named .1))
+        (small-more (omega (arith, named .2))
+        (small-more (omega (arith, relation-below first second a))
+        (small-more (omega (arith, back-relation-below first second a))
+        (small-more (omega (arith, rows-between first second a .1))
+        (small-more (omega (arith, columns-between first second a .1))
+        (small-append (answer .cells) small-cells
+        (small-more (omega (arith, directions-below first second))
+        (small-more (few-pieces (a .first-kept) (pieces-between first second a .1))
+        (small-more (few-pieces (a .second-kept) (back-pieces-between first second a .1)) small-none))))))))))
+
+    pub report-reads : (k : ℕ) → k < reportNumbers → u16At (hostReport card report) (2 * k) ≡ getD (reportWords answer) k 0
+    report-reads k l = ap (λ (b : List ℕ). u16At b (2 * k)) (report-is r) ∙ word-read (reportWords answer) reportNumbers k (drop reportLength report) l (small-words .at k)
+
+    pub report-named : (u16At (hostReport card report) 0 ≡ 0) × (u16At (hostReport card report) 2 ≡ 0) × (u16At (hostReport card report) 4 ≡ 0)
+    report-named =
+        let named = answered-named first second (answered r) in
+        (report-reads 0 (omega arith) ∙ named .0, report-reads 1 (omega arith) ∙ named .1, report-reads 2 (omega arith) ∙ named .2)
+
+    pub report-has : ReportHas (hostReport card report) answer
+    report-has =
+        record {
+          first = report-reads 3 (omega arith);
+          second = report-reads 4 (omega arith);
+          rows = report-reads 5 (omega arith);
+          columns = report-reads 6 (omega arith);
+          cells = λ i j hi hj.
+              let e : 14 + 2 * (3 * i + j) ≡ 2 * (7 + (3 * i + j)) = omega arith in
+              ap (u16At (hostReport card report)) e ∙ report-reads (7 + (3 * i + j)) (omega arith) ∙ word-cell answer cells-long (3 * i + j) (omega arith);
+          directions = report-reads 16 (omega arith) ∙ word-last answer cells-long 0;
+          first-pieces = report-reads 17 (omega arith) ∙ word-last answer cells-long 1;
+          second-pieces = report-reads 18 (omega arith) ∙ word-last answer cells-long 2;
+        }
+
+    pub report-tile : (M : Lines) → RegionBox second M → (t : ℕ) → t < 9 → (bit (u16At (hostReport card report) 6) t ≡ 1) ↔ RegionHas M first t
+    report-tile M is t l = rw (report-has .first) (tile-means first second (answered r) M is t l)
+
+    pub report-back-tile : (L : Lines) → RegionBox first L → (t : ℕ) → t < 9 → (bit (u16At (hostReport card report) 8) t ≡ 1) ↔ RegionHas L second t
+    report-back-tile L is t l = rw (report-has .second) (back-tile-means first second (answered r) L is t l)
