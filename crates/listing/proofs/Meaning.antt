@@ -1,0 +1,98 @@
+-- What a line of the list says. The card is good, and j and k are two different of its entries; the line is that of parcel j as seen from parcel k.
+--   answered             both parcels keep all rules: their pair answer has no refusal
+--   tiles, directions    the numbers of the tiles and of the directions that the line names
+--   line-is              the line: both slots; the names of the tiles and those of the directions, a colon between two; the pieces; one line feed
+--   tiles-mean           tile t is named exactly when the rule finds parcel j's region in tile t of the box of parcel k's
+--   directions-mean      direction t is named exactly when a cell that holds the one lies there from a cell that holds the other
+--   tiles-rise, directions-rise     both in rising order, so none twice
+--   pieces-mean          the last number counts the pieces of parcel j against that box;  pieces-least  it is at least 3
+--   tiles-some           the word of the tiles is not empty
+use mathlib.Core.Path.{_≡_, sym, _∙_, ap}
+use mathlib.Core.Logic.{_↔_, _≢_}
+use mathlib.Core.List.{List, [], _∷_, _++_, map}
+use Prim.Native.Nat.{ℕ, _≤_, _<_}
+use native.Mathlib.Omega.{arith}
+use lib.ListN.{length, getD}
+use Rattle.plane.specs.Points.{Lines}
+use Rattle.plane.specs.TileSet.{bit}
+use Rattle.plane.proofs.Logic.{iff-join}
+use Rattle.edge.specs.Travel.{Among}
+use Rattle.outline.specs.Region.{Region}
+use Rattle.outline.proofs.Keeps.{keeps-fewer, Sized, sized}
+use Rattle.outline.proofs.Ends.{start-le}
+use Rattle.relation.specs.Relation.{RegionBox, RegionHas, RegionPieces}
+use Rattle.pair.specs.declared.Answer.{Answer}
+use Rattle.pair.specs.Answer.{given, pairOf}
+use Rattle.pair.proofs.Laws.{Answered, fields-are, some-tile, tile-means, pieces-between, relation-below}
+use Rattle.pair.proofs.Laws as pair
+use Rattle.pair.proofs.Compass.{Lies, direction-means}
+use Rattle.parcels.specs.Reading.{parcelCount, slotAt, regionAt}
+use Rattle.parcels.specs.Good.{GoodCard}
+use Rattle.parcels.specs.Pairs.{pairIn}
+use Rattle.listing.specs.Names.{nameOf, namesOf, B, O}
+use Rattle.listing.specs.Listing.{space, lineFeed, decimal, pairLine, lineOf}
+use Rattle.listing.proofs.NameWords.{Starts, between, setBits, set-bits-mean, set-bits-rise, names-are, names-start, some-bit}
+use Rattle.listing.proofs.PairLines.{line-some}
+
+-- a bit that is below 9 and set, by what a set bit says
+nine-mean : (s : ℕ) (Says : ℕ → Type 0) → ((t : ℕ) → t < 9 → (bit s t ≡ 1) ↔ Says t) → (t : ℕ) → Among t (setBits s 9) ↔ ((t < 9) × Says t)
+nine-mean s Says says t = iff-join (set-bits-mean s 9 t) (λ p. (p .0, says t (p .0) .0 (p .1)), λ p. (p .0, says t (p .0) .1 (p .1)))
+
+module _ (card : List ℕ) (good : GoodCard card) (j k : ℕ) (hj : j < parcelCount card) (hk : k < parcelCount card) (other : j ≢ k) where
+  abbrev first : Region
+  first = regionAt card j
+
+  abbrev second : Region
+  second = regionAt card k
+
+  abbrev answer : Answer
+  answer = pairOf first second
+
+  pub answered : Answered first second
+  answered = record { first-kept = good .parcels-keep j hj; second-kept = good .parcels-keep k hk }
+
+  abbrev pub tiles : List ℕ
+  tiles = setBits (answer .first) 9
+
+  abbrev pub directions : List ℕ
+  directions = setBits (answer .directions) 9
+
+  pub line-is : lineOf card j k
+      ≡ decimal (slotAt card j) ++ (space ∷ (decimal (slotAt card k) ++ (space ∷ (between (map (nameOf B) tiles) ++ (space
+      ∷ (between (map (nameOf O) directions) ++ (space ∷ (decimal (answer .«first_pieces») ++ (lineFeed ∷ [])))))))))
+  unfolding pairLine pairIn
+  line-is =
+      line-some card j k other
+      ∙ ap (λ (w : List ℕ). decimal (slotAt card j) ++ (space ∷ (decimal (slotAt card k) ++ (space ∷ (w ++ (space
+      ∷ (namesOf O (answer .directions) ++ (space ∷ (decimal (answer .«first_pieces») ++ (lineFeed ∷ [])))))))))) (names-are B (answer .first))
+      ∙ ap (λ (w : List ℕ). decimal (slotAt card j) ++ (space ∷ (decimal (slotAt card k) ++ (space ∷ (between (map (nameOf B) tiles) ++ (space
+      ∷ (w ++ (space ∷ (decimal (answer .«first_pieces») ++ (lineFeed ∷ [])))))))))) (names-are O (answer .directions))
+
+  pub tiles-mean : (M : Lines) → RegionBox second M → (t : ℕ) → Among t tiles ↔ ((t < 9) × RegionHas M first t)
+  tiles-mean M is = nine-mean (answer .first) (RegionHas M first) (tile-means first second answered M is)
+
+  pub tiles-rise : (i i' : ℕ) → i < i' → i' < length tiles → getD tiles i 0 < getD tiles i' 0
+  tiles-rise = set-bits-rise (answer .first) 9
+
+  pub directions-mean : (L M : Lines) (one : RegionBox first L) (two : RegionBox second M) (t : ℕ)
+      → Among t directions ↔ ((t < 9) × Lies first second answered L M one two t)
+  directions-mean L M one two =
+      nine-mean (answer .directions) (Lies first second answered L M one two) (direction-means first second answered L M one two)
+
+  pub directions-rise : (i i' : ℕ) → i < i' → i' < length directions → getD directions i 0 < getD directions i' 0
+  directions-rise = set-bits-rise (answer .directions) 9
+
+  pub pieces-mean : (M : Lines) → RegionBox second M → (m : ℕ) → (answer .«first_pieces» ≡ m) ↔ RegionPieces M first m
+  pieces-mean = pair.pieces-mean first second answered
+
+  pub pieces-least : 3 ≤ answer .«first_pieces»
+  pieces-least =
+      let s : Sized first = sized (keeps-fewer (omega arith) (good .parcels-keep j hj)) in
+      omega (arith, s .grown 0 (s .some), start-le (first .ends) (s .grown) 1 (length (first .ends)) (s .some) (omega arith), pieces-between first second answered .0)
+
+  pub tiles-some : Starts (between (map (nameOf B) tiles))
+  unfolding given
+  tiles-some =
+      let is : answer .first ≡ _ = ap (λ (a : Answer). a .first) (fields-are first second answered) in
+      let b = some-bit (answer .first) (relation-below first second answered) (λ z. some-tile first second answered .0 (sym is ∙ z)) in
+      rw (← names-are B (answer .first)) (names-start B (answer .first) (b .0) (b .1) (b .2))
