@@ -1,0 +1,7 @@
+pub mod Bits
+mod Axis
+mod Gather
+mod Banded
+mod Marks
+pub mod Laid
+pub mod Only

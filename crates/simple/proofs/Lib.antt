@@ -1,0 +1,7 @@
+mod Signs
+mod Round
+mod Pass
+mod Parts
+mod Near
+mod Candidates
+pub mod Only

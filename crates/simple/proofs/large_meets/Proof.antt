@@ -1,0 +1,109 @@
+use native.Mathlib.Omega.{arith}
+use Rattle.plane.specs.Placed.{BoxInPlaces}
+use Rattle.ring.proofs.RingBox.{box-in-places}
+use Rattle.simple.proofs.Near.{x-within, y-within}
+use borrow.Author.Needs.{needs}
+use Rattle.simple.proofs.large_meets.Statement.{statement}
+use Rattle.simple.proofs.large_meets.Tie as tie
+
+box-placed : (c : tie.After-stretch-box) → BoxInPlaces (c .stretch-box .result)
+box-placed c =
+    let a = c .before .args in
+    rw (c .stretch-box .ensures) (box-in-places (a .outline .now) (a .from) (a .n) (c .before .pre .0 .range) (c .before .pre .1))
+
+stretch-box-requires : tie.Need-stretch-box-requires
+stretch-box-requires c κs = search needs
+
+slice-aggregate-lay-bands : tie.Need-slice-aggregate-lay-bands
+slice-aggregate-lay-bands c = search needs
+
+slice-aggregate-lay-bands-2 : tie.Need-slice-aggregate-lay-bands-2
+slice-aggregate-lay-bands-2 c = search needs
+
+slice-aggregate-lay-bands-3 : tie.Need-slice-aggregate-lay-bands-3
+slice-aggregate-lay-bands-3 c = search needs
+
+lay-bands-requires : tie.Need-lay-bands-requires
+lay-bands-requires c κs =
+    let b = c .before .before .before in
+    let a = b .before .args in
+    let p = b .before .pre in
+    ((p .0, p .1, p .2, omega arith, x-within (a .outline .now) (a .from) (a .n) (p .1) (b .stretch-box .result) (b .stretch-box .ensures), box-placed b .east), search needs)
+
+slice-aggregate-lay-bands-4 : tie.Need-slice-aggregate-lay-bands-4
+slice-aggregate-lay-bands-4 c = search needs
+
+slice-aggregate-lay-bands-5 : tie.Need-slice-aggregate-lay-bands-5
+slice-aggregate-lay-bands-5 c = search needs
+
+slice-aggregate-lay-bands-6 : tie.Need-slice-aggregate-lay-bands-6
+slice-aggregate-lay-bands-6 c = search needs
+
+lay-bands-requires-2 : tie.Need-lay-bands-requires-2
+lay-bands-requires-2 c κs =
+    let b = c .before .before .before .before .before .before .before .before .before .before in
+    let a = b .before .args in
+    let p = b .before .pre in
+    ((p .0, p .1, p .2, omega arith, y-within (a .outline .now) (a .from) (a .n) (p .1) (b .stretch-box .result) (b .stretch-box .ensures), box-placed b .north), search needs)
+
+slice-aggregate-banded-meets : tie.Need-slice-aggregate-banded-meets
+slice-aggregate-banded-meets c = search needs
+
+slice-aggregate-banded-meets-2 : tie.Need-slice-aggregate-banded-meets-2
+slice-aggregate-banded-meets-2 c = search needs
+
+slice-aggregate-banded-meets-3 : tie.Need-slice-aggregate-banded-meets-3
+slice-aggregate-banded-meets-3 c = search needs
+
+slice-aggregate-banded-meets-4 : tie.Need-slice-aggregate-banded-meets-4
+slice-aggregate-banded-meets-4 c = search needs
+
+slice-aggregate-banded-meets-5 : tie.Need-slice-aggregate-banded-meets-5
+slice-aggregate-banded-meets-5 c = search needs
+
+slice-aggregate-banded-meets-6 : tie.Need-slice-aggregate-banded-meets-6
+slice-aggregate-banded-meets-6 c = search needs
+
+banded-meets-requires : tie.Need-banded-meets-requires
+banded-meets-requires c κs =
+    let p = c .before .before .before .before .before .before .before .before .before .before .before .before .before .before .before .before .before .before .before .before .before .pre in
+    let x = c .before .before .before .before .before .before .before .before .before .before .before .before .before .before .before .before .lay-bands in
+    let y = c .before .before .before .before .before .before .before .before .before .lay-bands2 in (
+      (p .0, p .2),
+      (
+        (x .ensures, y .ensures),
+        (
+          omega (arith, p .2, x .kept .1 .1 .1 .1 .1 .1 .0),
+          x .kept .1 .1 .1 .1 .1 .1 .1 .0,
+          x .kept .1 .1 .1 .1 .1 .1 .1 .1 .0,
+          omega (arith, p .2, y .kept .1 .1 .1 .1 .1 .1 .0),
+          y .kept .1 .1 .1 .1 .1 .1 .1 .0,
+          y .kept .1 .1 .1 .1 .1 .1 .1 .1 .0,
+        ),
+      ),
+    )
+
+returns : tie.Need-returns
+returns c = search needs
+
+pub large-meets-spec : {M : Type 1} → statement M
+large-meets-spec =
+    tie.close
+    (tie.spec
+    stretch-box-requires
+    slice-aggregate-lay-bands
+    slice-aggregate-lay-bands-2
+    slice-aggregate-lay-bands-3
+    lay-bands-requires
+    slice-aggregate-lay-bands-4
+    slice-aggregate-lay-bands-5
+    slice-aggregate-lay-bands-6
+    lay-bands-requires-2
+    slice-aggregate-banded-meets
+    slice-aggregate-banded-meets-2
+    slice-aggregate-banded-meets-3
+    slice-aggregate-banded-meets-4
+    slice-aggregate-banded-meets-5
+    slice-aggregate-banded-meets-6
+    banded-meets-requires
+    returns)

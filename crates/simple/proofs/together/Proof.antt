@@ -1,0 +1,11 @@
+use mir.Facts.{toZ-ofZ}
+use Rattle.simple.specs.Signs.{together}
+use Rattle.simple.proofs.together.Statement.{statement}
+use Rattle.simple.proofs.together.Tie as tie
+
+returns : tie.Need-returns
+unfolding together
+returns c = rw (toZ-ofZ (c .fits .p), toZ-ofZ (c .fits .q))
+
+pub together-spec : {M : Type 1} → statement M
+together-spec = tie.close (tie.spec returns)

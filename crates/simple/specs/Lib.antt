@@ -1,0 +1,4 @@
+pub mod Faults
+pub mod Signs
+pub mod Parts
+pub mod Layout
