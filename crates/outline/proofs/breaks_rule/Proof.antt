@@ -9,8 +9,12 @@ use Rattle.ring.specs.Stretch.{Stretch}
 use Rattle.ring.specs.Repeated.{repeated}
 use Rattle.ring.specs.Tangled.{tangled}
 use Rattle.ring.specs.Turning.{clockwise}
+use Rattle.bands.specs.Bands.{mostEdges}
+use Rattle.simple.specs.declared.Faults.{Faults}
+use Rattle.simple.specs.Faults.{faultsOf}
 use Rattle.outline.specs.Region.{Region, regionOf, startOf, sizeOf}
 use Rattle.outline.specs.Check.{outsideIn, ofRing, breaksAt}
+use Rattle.outline.proofs.Ends.{size-least, ring-in-last}
 use Rattle.outline.proofs.Keeps.{keeps-fewer, Sized, sized, in-range, ring-order, ring-room, ring-stretch}
 use Rattle.outline.proofs.breaks_rule.Statement.{statement}
 use Rattle.outline.proofs.breaks_rule.Tie as tie
@@ -45,6 +49,12 @@ module _ (c : tie.After-size-of) where
       answered (Stretch (region begin .coordinates)) (c .before .start-of .ensures) (c .size-of .ensures)
       (ring-stretch (kept begin) ring (begin .pre .3) (in-range (keeps-fewer (omega (arith, begin .pre .0)) (begin .pre .2))))
 
+  sizes : (3 ≤ c .size-of .result) × (c .size-of .result ≤ mostEdges)
+  sizes =
+      answered (λ from n. (3 ≤ n) × (n ≤ mostEdges)) (c .before .start-of .ensures) (c .size-of .ensures)
+      (omega (arith, size-least (region begin .ends) (kept begin .grown) ring (begin .pre .3)),
+      omega (arith, ring-in-last (region begin .ends) (kept begin .grown) ring (begin .pre .3), kept begin .small))
+
   -- a test of the stretch is one of the ring
   told : (t : ℕ → ℕ → Bool) {b : Bool} → b ≡ t (c .before .start-of .result) (c .size-of .result)
       → b ≡ ofRing (region begin) ring (t (startOf (region begin .ends) ring) (sizeOf (region begin .ends) ring))
@@ -70,12 +80,17 @@ returns-2 : tie.Need-returns-2
 unfolding breaksAt
 returns-2 c = let q = c .before .before .before in rw (c .before .if2 .taken) (told q (repeated (region (begin q) .coordinates)) (c .ring-repeats .ensures))
 
-ring-tangled-requires : tie.Need-ring-tangled-requires
-ring-tangled-requires c κs = stretch (c .before .before .before) (c .before .before .if1 .left)
+ring-faults-requires : tie.Need-ring-faults-requires
+ring-faults-requires c κs =
+    let q = c .before .before .before in
+    let s = sizes q in
+    (stretch q (c .before .before .if1 .left), s .0, s .1)
 
 returns-3 : tie.Need-returns-3
-unfolding breaksAt
-returns-3 c = let q = c .before .before .before .before in rw (c .before .if3 .taken) (told q (tangled (region (begin q) .coordinates)) (c .ring-tangled .ensures))
+unfolding breaksAt faultsOf
+returns-3 c =
+    let q = c .before .before .before .before in
+    rw (c .before .if3 .taken) (told q (tangled (region (begin q) .coordinates)) (ap (λ (f : Faults). f .tangled) (c .ring-faults .ensures)))
 
 ring-clockwise-requires : tie.Need-ring-clockwise-requires
 ring-clockwise-requires c κs = stretch (c .before .before .before) (c .before .before .if1 .left)
@@ -97,7 +112,7 @@ breaks-rule-spec =
     returns
     ring-repeats-requires
     returns-2
-    ring-tangled-requires
+    ring-faults-requires
     returns-3
     ring-clockwise-requires
     returns-4)
