@@ -1,6 +1,6 @@
 pub mod Lengths
 pub mod Loading
 pub mod Loads
-pub mod Parts
-pub mod WholeCard
+mod Parts
+mod WholeCard
 pub mod Only

@@ -7,70 +7,52 @@
 use mathlib.Core.Path.{_≡_, refl, _∙_, ap}
 use mathlib.Core.Logic.{_↔_, _⊎_, _≢_, ⊎-elim}
 use mathlib.Core.List.{List}
-use Prim.Native.Nat.{ℕ, _+_, _*_, _/_, _%_, _<_}
+use Prim.Native.Nat.{ℕ, _<_}
 use native.Mathlib.Omega.{arith}
 use lib.Dec.{eqb}
-use lib.ListN.{getD}
-use lib.IntN.{ℤ}
 use borrow.Author.Tests.{eq-eqb, ne-eqb}
 use Rattle.plane.specs.Points.{Lines}
 use Rattle.plane.specs.TileSet.{bit}
-use Rattle.plane.proofs.Lists.{getD-tab}
-use Rattle.ring.proofs.RingBox.{box-in-range}
-use Rattle.outline.specs.Region.{lastEnd}
-use Rattle.outline.proofs.Check.{accepted-means}
-use Rattle.relation.specs.Relation.{KeepsFirstFour, RegionBox, RegionHas, regionBox, relationOf}
-use Rattle.relation.proofs.Relation.{region-in-range, region-upright, region-box-means, relation-means}
-use Rattle.matrix.specs.Matrix.{matrixOf}
-use Rattle.matrix.specs.Directions.{directionsOf, opposite}
-use Rattle.matrix.proofs.Directions.{pair-opposite}
-use Rattle.slots.specs.Layout.{Sheet, Parcel, nothing, outline, cellOf, layout, selfCell, slots, relations-length}
+use Rattle.outline.specs.Region.{Region, Parcel, nothing, outline}
+use Rattle.outline.specs.Rules.{KeepsRules}
+use Rattle.outline.proofs.Keeps.{keeps-fewer}
+use Rattle.relation.specs.Relation.{RegionBox, RegionHas, regionBox, relationOf}
+use Rattle.relation.proofs.Relation.{relation-tile}
+use Rattle.matrix.specs.Directions.{opposite}
+use Rattle.pair.specs.Answer.{pairOf}
+use Rattle.pair.proofs.Laws.{directions-turned}
+use Rattle.layout.specs.Sheet.{Sheet, slots}
+use Rattle.layout.specs.Layout.{selfCell, cellOf}
+use Rattle.layout.specs.Slots.{cellIn}
+use Rattle.layout.proofs.Standing.{layout-cell}
 use Rattle.hire.specs.Runs.{Call, afterRun, Stands, standing}
-use Rattle.hire.proofs.Runs.{standing-sound, run-layout, standing-means}
-
-abbrev pub cellIn : Sheet → (p q : ℕ) → ℕ
-cellIn s p q = getD (s .relations) (slots * p + q) 0
-
-layout-cell : (st : ℕ → Parcel) (p q : ℕ) → p < slots → q < slots → cellIn (layout st) p q ≡ cellOf (st p) (st q) (eqb p q)
-unfolding layout
-layout-cell st p q hp hq =
-    let d : (slots * p + q) / slots ≡ p = omega arith in
-    let r : (slots * p + q) % slots ≡ q = omega arith in
-    getD-tab _ 0 relations-length (slots * p + q) (omega arith) ∙ rw (d, r) refl
+use Rattle.hire.proofs.Runs.{standing-together, run-layout, standing-means}
 
 module _ (cs : List Call) (p q : ℕ) (hp : p < slots) (hq : q < slots) where
-  run-cell : cellIn (afterRun cs) p q ≡ cellOf (standing cs p) (standing cs q) (eqb p q)
-  run-cell = ap (λ (s : Sheet). cellIn s p q) (run-layout cs) ∙ layout-cell (standing cs) p q hp hq
+  run-cell : cellIn ((afterRun cs) .relations) p q ≡ cellOf (standing cs p) (standing cs q) (eqb p q)
+  run-cell = ap (λ (s : Sheet). cellIn (s .relations) p q) (run-layout cs) ∙ layout-cell (standing cs) p q hp hq
 
-  module _ (xs : List ℤ) (ends : List ℕ) (first : Stands cs p xs ends) (ys : List ℤ) (fs : List ℕ) (second : Stands cs q ys fs) (other : p ≢ q) where
-    pub standing-cell : cellIn (afterRun cs) p q ≡ relationOf (regionBox ys fs) xs ends
-    standing-cell = run-cell ∙ rw (standing-means cs p xs ends .1 first, standing-means cs q ys fs .1 second, ne-eqb p q other) refl
-
-  pub empty-cell : (standing cs p ≡ nothing) ⊎ (standing cs q ≡ nothing) → cellIn (afterRun cs) p q ≡ 0
+  pub empty-cell : (standing cs p ≡ nothing) ⊎ (standing cs q ≡ nothing) → cellIn ((afterRun cs) .relations) p q ≡ 0
   empty-cell h = run-cell ∙ ⊎-elim (λ e. rw e refl) (λ e. rw e (no-second (standing cs p))) h
     where
       no-second : (r : Parcel) → cellOf r nothing (eqb p q) ≡ 0
       no-second nothing = refl
-      no-second (outline xs ends) = refl
+      no-second (outline R) = refl
 
-pub self-cell : (cs : List Call) (p : ℕ) → p < slots → (xs : List ℤ) (ends : List ℕ) → Stands cs p xs ends → cellIn (afterRun cs) p p ≡ selfCell
-self-cell cs p hp xs ends s = run-cell cs p p hp hp ∙ rw (standing-means cs p xs ends .1 s, eq-eqb p p refl) refl
+pub self-cell : (cs : List Call) (p : ℕ) → p < slots → (R : Region) → Stands cs p R → cellIn ((afterRun cs) .relations) p p ≡ selfCell
+self-cell cs p hp R s = run-cell cs p p hp hp ∙ rw (standing-means cs p R .1 s, eq-eqb p p refl) refl
 
 -- a standing parcel keeps the rules
-kept : (cs : List Call) (p : ℕ) (xs : List ℤ) (ends : List ℕ) → Stands cs p xs ends → KeepsFirstFour xs ends
-kept cs p xs ends s =
-    let e = standing-means cs p xs ends .1 s in
-    record { keeps = λ n r l b. accepted-means xs ends .0 (rw e at (standing-sound cs p)) .keeps n r b }
+kept : (cs : List Call) (p : ℕ) → p < slots → (R : Region) → Stands cs p R → KeepsRules R
+kept cs p hp R s = rw (standing-means cs p R .1 s) at (standing-together cs .each p hp)
 
-module _ (cs : List Call) (p q : ℕ) (hp : p < slots) (hq : q < slots) (xs : List ℤ) (ends : List ℕ) (first : Stands cs p xs ends)
-    (ys : List ℤ) (fs : List ℕ) (second : Stands cs q ys fs) (other : p ≢ q) where
-  pub standing-tile : (M : Lines) → RegionBox ys fs M → (t : ℕ) → t < 9 → (bit (cellIn (afterRun cs) p q) t ≡ 1) ↔ RegionHas M xs ends t
-  standing-tile M is t h =
-      let four = kept cs q ys fs second in
-      let range = box-in-range ys 0 (lastEnd fs) (region-in-range ys fs four) M is in
-      let e = region-box-means ys fs four M range .1 is in
-      rw (standing-cell cs p q hp hq xs ends first ys fs second other) (rw e (relation-means xs ends (kept cs p xs ends first) M range (rw e at (region-upright ys fs)) t h))
+module _ (cs : List Call) (p q : ℕ) (hp : p < slots) (hq : q < slots) (R : Region) (first : Stands cs p R) (Q : Region) (second : Stands cs q Q) where
+  module _ (other : p ≢ q) where
+    pub standing-cell : cellIn ((afterRun cs) .relations) p q ≡ relationOf (regionBox Q) R
+    standing-cell = run-cell cs p q hp hq ∙ rw (standing-means cs p R .1 first, standing-means cs q Q .1 second, ne-eqb p q other) refl
 
-  pub opposite-ways : directionsOf (matrixOf (regionBox ys fs) (regionBox xs ends) (cellIn (afterRun cs) q p) (cellIn (afterRun cs) p q))
-      ≡ opposite (directionsOf (matrixOf (regionBox xs ends) (regionBox ys fs) (cellIn (afterRun cs) p q) (cellIn (afterRun cs) q p)))
-  opposite-ways = pair-opposite (regionBox xs ends) (regionBox ys fs) (cellIn (afterRun cs) p q) (cellIn (afterRun cs) q p)
+    pub standing-tile : (M : Lines) → RegionBox Q M → (t : ℕ) → t < 9 → (bit (cellIn ((afterRun cs) .relations) p q) t ≡ 1) ↔ RegionHas M R t
+    standing-tile M is t h = rw standing-cell (relation-tile (keeps-fewer (omega arith) (kept cs p hp R first)) (keeps-fewer (omega arith) (kept cs q hq Q second)) M is t h)
+
+  pub opposite-ways : pairOf Q R .directions ≡ opposite (pairOf R Q .directions)
+  opposite-ways = directions-turned R Q (record { first-kept = kept cs p hp R first; second-kept = kept cs q hq Q second })

@@ -82,7 +82,7 @@ held-u16 b at v p q e (suc zero) l = high (getD b at 0) (getD b (at + 1) 0) p q 
     high x y p q e = omega arith
 held-u16 b at v p q e (suc (suc j)) l = absurd (omega arith)
 
-pub unsigned-lt : (z : ℤ) → mag z < 2147483648 → unsigned z < 4294967296
+unsigned-lt : (z : ℤ) → mag z < 2147483648 → unsigned z < 4294967296
 unsigned-lt (pos n) h = omega arith
 unsigned-lt (negsuc n) h = omega arith
 

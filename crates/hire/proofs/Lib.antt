@@ -1,9 +1,7 @@
-pub mod Sound
-pub mod Held
-pub mod WrittenCard
-pub mod RoundTrip
-pub mod LoadedCard
-pub mod Layouts
 pub mod Runs
 pub mod Cells
+mod Held
+mod WrittenCard
+mod RoundTrip
+mod LoadedCard
 pub mod Cards

@@ -5,7 +5,7 @@ use mathlib.Core.Path.{_≡_, refl, sym, _∙_, ap, subst}
 use mathlib.Core.Logic.{_≢_}
 use mathlib.Core.Bool.{Bool}
 use mathlib.Core.List.{List, [], _++_}
-use Prim.Native.Nat.{ℕ, zero, suc, _+_, _-_, _*_, _≤_, _<_}
+use Prim.Native.Nat.{ℕ, zero, suc, _+_, _*_, _≤_, _<_}
 use native.Mathlib.Omega.{arith}
 use native.Mathlib.Decide.{decLt, ℕ-discrete}
 use native.Mathlib.Numerals.{add-one}
@@ -15,62 +15,65 @@ use lib.Seq.{ext-getD}
 use lib.IntN.{pos}
 use borrow.Author.Tests.{lt-ltb, le-ltb, eqb-true, eqb-false}
 use Rattle.plane.specs.Folds.{sumTo, firstOf}
+use Rattle.plane.specs.TileSet.{one-if}
 use Rattle.plane.proofs.Folds.{first-below, first-passes}
 use Rattle.plane.proofs.Lists.{getD-tab}
-use Rattle.outline.specs.Region.{lastEnd}
-use Rattle.slots.specs.Layout.{Parcel, nothing, outline, slots}
-use Rattle.endian.specs.Bytes.{u16At, i32At, u16Bytes, i32Bytes}
+use Rattle.outline.specs.Region.{Parcel, nothing, outline, lastEnd}
+use Rattle.layout.specs.Sheet.{slots}
+use Rattle.layout.specs.Standing.{occupied, endList, coordinateList, parcelsBelow, ringsBelow, verticesBelow}
+use Rattle.endian.specs.Bytes.{u16At, i32At, u16Bytes, i32Bytes, joined}
+use Rattle.endian.specs.Placed.{wordBytes, numberBytes}
+use Rattle.endian.proofs.Joined.{length-joined, sum-const}
 use Rattle.parcels.specs.Layout.{parcelsAt, ringsAt, verticesAt}
-use Rattle.parcels.specs.Reading.{parcelCount, ringCount, vertexCount, slotAt, countAt, firstRing, firstVertex, entryOf, parcelIn, endsAt, numbersAt}
-use Rattle.card.specs.Write.{stands, ringsOf, verticesOf, entryBytes, endBytes, vertexBytes, parcelTotal, ringTotal, vertexTotal, cardOf}
-use Rattle.endian.proofs.Joined.{sum-const}
-use Rattle.card.proofs.Lengths.{E, N, X, entries-to, ends-to, vertices-to as bytes-to, entries-length, ends-length, written-length}
+use Rattle.parcels.specs.Reading.{parcelCount, ringCount, vertexCount, slotAt, countAt, firstRing, firstVertex, entryOf, parcelIn, endsAt, numbersAt, regionAt}
+use Rattle.parcels.specs.Good.{GoodCard}
+use Rattle.parcels.proofs.Good.{slots-rise}
+use Rattle.parcels.proofs.Bounds.{length-ends}
+use Rattle.card.specs.Write.{headerOf, entryBytes, entryPart, endPart, vertexPart, cardOf}
+use Rattle.card.proofs.Lengths.{entries-length, ends-length, vertices-length, written-length}
 use Rattle.hire.proofs.Held.{Held, held-append, join-held, held-u16, held-i32}
-use Rattle.parcels.proofs.Good.{Good, slot-small, ring-total, slots-rise}
-use Rattle.parcels.proofs.Bounds.{Header, header-means}
-use Rattle.hire.proofs.WrittenCard.{before}
 
 plus-none : (a : ℕ) → a + 0 ≡ a
 plus-none a = omega arith
 
-module _ (b : List ℕ) (good : Good b) where
+module _ (b : List ℕ) (good : GoodCard b) where
   abbrev st : ℕ → Parcel
   st = parcelIn b
 
   abbrev P : ℕ
   P = parcelCount b
 
+  abbrev before : ℕ → ℕ
+  before i = parcelsBelow st i
+
   -- the entries before slot i are those of lower slots
   record Sorted (i : ℕ) : Type 0 where
-    some : before st i ≤ P
-    lower : (k : ℕ) → k < before st i → slotAt b k < i
-    higher : (k : ℕ) → before st i ≤ k → k < P → i ≤ slotAt b k
+    some : before i ≤ P
+    lower : (k : ℕ) → k < before i → slotAt b k < i
+    higher : (k : ℕ) → before i ≤ k → k < P → i ≤ slotAt b k
 
   abbrev named : ℕ → ℕ → Bool
   named i k = eqb (slotAt b k) i
 
   -- the entry that names slot i is the next one
-  entry-next : (i : ℕ) → Sorted i → entryOf b i < P → (entryOf b i ≡ before st i) × (slotAt b (entryOf b i) ≡ i)
+  entry-next : (i : ℕ) → Sorted i → entryOf b i < P → (entryOf b i ≡ before i) × (slotAt b (entryOf b i) ≡ i)
   unfolding entryOf
-  entry-next i s l = (place (decLt k (before st i)) (decLt (before st i) k), is)
+  entry-next i s l = (place (decLt (firstOf (named i) P) (before i)) (decLt (before i) (firstOf (named i) P)), is)
     where
-      k : ℕ
-      k = firstOf (named i) P
-
       is : slotAt b (firstOf (named i) P) ≡ i
       is = eqb-true (slotAt b (firstOf (named i) P)) i (first-passes (named i) P l)
 
-      place : Dec (firstOf (named i) P < before st i) → Dec (before st i < firstOf (named i) P) → firstOf (named i) P ≡ before st i
+      place : Dec (firstOf (named i) P < before i) → Dec (before i < firstOf (named i) P) → firstOf (named i) P ≡ before i
       place (yes q) d = absurd (omega (arith, s .lower (firstOf (named i) P) q, is))
-      place (no q) (yes r) = absurd (omega (arith, s .higher (before st i) (omega arith) (omega arith), slots-rise b good (before st i) (firstOf (named i) P) r l, is))
+      place (no q) (yes r) = absurd (omega (arith, s .higher (before i) (omega arith) (omega arith), slots-rise b good (before i) (firstOf (named i) P) r l, is))
       place (no q) (no r) = omega arith
 
   -- what stands in a slot that an entry names, and in one that none does
-  there : (i : ℕ) → entryOf b i < P → stands (st i) ≡ 1
+  there : (i : ℕ) → entryOf b i < P → one-if (occupied (st i)) ≡ 1
   unfolding parcelIn
   there i l = rw (lt-ltb (entryOf b i) P l) refl
 
-  absent : (i : ℕ) → (entryOf b i < P → ⊥) → stands (st i) ≡ 0
+  absent : (i : ℕ) → (entryOf b i < P → ⊥) → one-if (occupied (st i)) ≡ 0
   unfolding parcelIn
   absent i l = rw (le-ltb (entryOf b i) P (omega arith)) refl
 
@@ -79,40 +82,39 @@ module _ (b : List ℕ) (good : Good b) where
   other i k l n = eqb-false (slotAt b k) i (first-below (named i) P k (omega arith))
 
   sorted : (i : ℕ) → i ≤ slots → Sorted i
-  unfolding sumTo
+  unfolding sumTo parcelsBelow
   sorted zero h = record { some = omega arith; lower = λ k l. absurd (omega arith); higher = λ k l m. omega arith }
   sorted (suc i) h = go (sorted i (omega arith)) (decLt (entryOf b i) P)
     where
       go : Sorted i → Dec (entryOf b i < P) → Sorted (suc i)
       go s (yes l) =
           let x = entry-next i s l in
-          let one : stands (st i) ≡ 1 = there i l in
-          let at : slotAt b (before st i) ≡ i = ap (slotAt b) (sym (x .0)) ∙ x .1 in
+          let one : one-if (occupied (st i)) ≡ 1 = there i l in
+          let at : slotAt b (before i) ≡ i = ap (slotAt b) (sym (x .0)) ∙ x .1 in
           record {
             some = omega (arith, x .0, l, one);
             lower = λ k q.
-                elim (ℕ-discrete k (before st i)) [ yes e ↦ (let f : slotAt b k ≡ i = ap (slotAt b) e ∙ at in omega arith) | no e ↦ omega (arith, s .lower k (omega (arith, q, one, e))) ];
-            higher = λ k q r. omega (arith, slots-rise b good (before st i) k (omega (arith, q, one)) r, at);
+                elim (ℕ-discrete k (before i)) [ yes e ↦ (let f : slotAt b k ≡ i = ap (slotAt b) e ∙ at in omega arith) | no e ↦ omega (arith, s .lower k (omega (arith, q, one, e))) ];
+            higher = λ k q r. omega (arith, slots-rise b good (before i) k (omega (arith, q, one)) r, at);
           }
       go s (no l) =
-          let none : stands (st i) ≡ 0 = absent i l in
+          let none : one-if (occupied (st i)) ≡ 0 = absent i l in
           record {
             some = omega (arith, s .some, none);
             lower = λ k q. omega (arith, s .lower k (omega (arith, q, none)));
             higher = λ k q r. omega (arith, s .higher k (omega (arith, q, none)) r, other i k r l);
           }
 
-  parcels-all : parcelTotal st ≡ P
-  unfolding parcelTotal
+  parcels-all : parcelsBelow st slots ≡ P
   parcels-all =
       let s = sorted slots (omega arith) in
-      elim (decLt (before st slots) P) [ yes l ↦ absurd (omega (arith, s .higher (before st slots) (omega arith) l, slot-small b good (before st slots) l)) | no l ↦ omega (arith, s .some) ]
+      elim (decLt (before slots) P) [ yes l ↦ absurd (omega (arith, s .higher (before slots) (omega arith) l, good .slots-low (before slots) l)) | no l ↦ omega (arith, s .some) ]
 
   -- the entry of slot i, and what stands there
   record Entry (i : ℕ) : Type 0 where
-    low : before st i < P
-    names : slotAt b (before st i) ≡ i
-    is : st i ≡ outline (numbersAt b (before st i)) (endsAt b (before st i))
+    low : before i < P
+    names : slotAt b (before i) ≡ i
+    is : st i ≡ outline (regionAt b (before i))
 
   entry-of : (i : ℕ) → i < slots → entryOf b i < P → Entry i
   unfolding parcelIn
@@ -121,7 +123,7 @@ module _ (b : List ℕ) (good : Good b) where
       record {
         low = omega (arith, x .0, l);
         names = ap (slotAt b) (sym (x .0)) ∙ x .1;
-        is = rw (lt-ltb (entryOf b i) P l) (ap (λ (k : ℕ). outline (numbersAt b k) (endsAt b k)) (x .0));
+        is = rw (lt-ltb (entryOf b i) P l) (ap (λ (k : ℕ). outline (regionAt b k)) (x .0));
       }
 
   empty-of : (i : ℕ) → (entryOf b i < P → ⊥) → st i ≡ nothing
@@ -136,35 +138,32 @@ module _ (b : List ℕ) (good : Good b) where
   slot-is : (i : ℕ) → i < slots → Slot i
   slot-is i h = elim (decLt (entryOf b i) P) [ yes l ↦ taken (entry-of i h l) | no l ↦ empty (empty-of i l) ]
 
-  rings-to : (i : ℕ) → i ≤ slots → sumTo (λ k. ringsOf (st k)) i ≡ firstRing b (before st i)
-  unfolding firstRing sumTo
+  rings-to : (i : ℕ) → i ≤ slots → ringsBelow st i ≡ firstRing b (before i)
+  unfolding firstRing sumTo parcelsBelow ringsBelow
   rings-to zero h = refl
   rings-to (suc i) h = go (slot-is i h) (rings-to i (omega arith))
     where
-      go : Slot i → sumTo (λ k. ringsOf (st k)) i ≡ sumTo (countAt b) (before st i) → sumTo (λ k. ringsOf (st k)) i + ringsOf (st i) ≡ sumTo (countAt b) (before st i + stands (st i))
-      go (empty e) ih = rw (e, plus-none (before st i), plus-none (sumTo (λ k. ringsOf (st k)) i)) ih
-      go (taken e) ih = rw (e .is, add-one (before st i), ring-total b good (before st i) (e .low), ih) refl
+      go : Slot i → ringsBelow st i ≡ sumTo (countAt b) (before i) → ringsBelow st i + length (endList (st i)) ≡ sumTo (countAt b) (before i + one-if (occupied (st i)))
+      go (empty e) ih = rw (e, plus-none (before i), plus-none (ringsBelow st i)) ih
+      go (taken e) ih = rw (e .is, add-one (before i), length-ends b (before i), ih) refl
 
-  vertices-to : (i : ℕ) → i ≤ slots → sumTo (λ k. verticesOf (st k)) i ≡ firstVertex b (before st i)
-  unfolding firstVertex sumTo
+  vertices-to : (i : ℕ) → i ≤ slots → verticesBelow st i ≡ firstVertex b (before i)
+  unfolding firstVertex sumTo parcelsBelow verticesBelow
   vertices-to zero h = refl
   vertices-to (suc i) h = go (slot-is i h) (vertices-to i (omega arith))
     where
-      go : Slot i → sumTo (λ k. verticesOf (st k)) i ≡ sumTo (λ k. lastEnd (endsAt b k)) (before st i)
-          → sumTo (λ k. verticesOf (st k)) i + verticesOf (st i) ≡ sumTo (λ k. lastEnd (endsAt b k)) (before st i + stands (st i))
-      go (empty e) ih = rw (e, plus-none (before st i), plus-none (sumTo (λ k. verticesOf (st k)) i)) ih
-      go (taken e) ih = rw (e .is, add-one (before st i), ih) refl
+      go : Slot i → verticesBelow st i ≡ sumTo (λ k. lastEnd (endsAt b k)) (before i)
+          → verticesBelow st i + lastEnd (endList (st i)) ≡ sumTo (λ k. lastEnd (endsAt b k)) (before i + one-if (occupied (st i)))
+      go (empty e) ih = rw (e, plus-none (before i), plus-none (verticesBelow st i)) ih
+      go (taken e) ih = rw (e .is, add-one (before i), ih) refl
 
-  rings-all : ringTotal st ≡ ringCount b
-  unfolding ringTotal firstRing parcelTotal
-  rings-all = rings-to slots (omega arith) ∙ ap (sumTo (countAt b)) parcels-all ∙ good .rings
+  rings-all : ringsBelow st slots ≡ ringCount b
+  unfolding firstRing
+  rings-all = rings-to slots (omega arith) ∙ ap (sumTo (countAt b)) parcels-all ∙ good .rings-add
 
-  vertices-all : vertexTotal st ≡ vertexCount b
-  unfolding vertexTotal firstVertex parcelTotal
-  vertices-all = vertices-to slots (omega arith) ∙ ap (sumTo (λ k. lastEnd (endsAt b k))) parcels-all ∙ good .vertices
-
-  header : Header b
-  header = header-means b (good .header)
+  vertices-all : verticesBelow st slots ≡ vertexCount b
+  unfolding firstVertex
+  vertices-all = vertices-to slots (omega arith) ∙ ap (sumTo (λ k. lastEnd (endsAt b k))) parcels-all ∙ good .vertices-add
 
   module _ (low : (j : ℕ) → getD b j 0 < 256) where
     word-held : (at v : ℕ) → u16At b at ≡ v → Held b at (u16Bytes v)
@@ -173,16 +172,7 @@ module _ (b : List ℕ) (good : Good b) where
     nothing-held : (at : ℕ) → Held b at []
     nothing-held at j l = absurd (omega arith)
 
-    entry-held : (i : ℕ) → i < slots → Held b (parcelsAt + 4 * before st i) (entryBytes i (st i))
-    entry-held i h = go (slot-is i h)
-      where
-        go : Slot i → Held b (parcelsAt + 4 * before st i) (entryBytes i (st i))
-        go (empty e) = subst (λ (p : Parcel). Held b (parcelsAt + 4 * before st i) (entryBytes i p)) (sym e) (nothing-held _)
-        go (taken e) =
-            subst (λ (p : Parcel). Held b (parcelsAt + 4 * before st i) (entryBytes i p)) (sym (e .is))
-            (held-append b (parcelsAt + 4 * before st i) (u16Bytes i) (u16Bytes (length (endsAt b (before st i)))) (word-held _ i (e .names))
-            (word-held (parcelsAt + 4 * before st i + 2) _ (sym (ring-total b good (before st i) (e .low)))))
-
+    -- ---- the parts of one slot
     end-at : (k r : ℕ) → r < countAt b k → u16At b (ringsAt P + 2 * firstRing b k + sumTo (λ j. 2) r) ≡ getD (endsAt b k) r 0
     unfolding endsAt
     end-at k r l =
@@ -195,68 +185,89 @@ module _ (b : List ℕ) (good : Good b) where
         let at : verticesAt P (ringCount b) + 8 * firstVertex b k + sumTo (λ i. 4) j ≡ verticesAt P (ringCount b) + 8 * firstVertex b k + 4 * j = omega (arith, sum-const 4 j) in
         ap (i32At b) at ∙ sym (getD-tab _ (pos 0) (2 * lastEnd (endsAt b k)) j l)
 
-    ends-held : (i : ℕ) → i < slots → Held b (ringsAt P + 2 * firstRing b (before st i)) (endBytes (st i))
-    ends-held i h = go (slot-is i h)
-      where
-        go : Slot i → Held b (ringsAt P + 2 * firstRing b (before st i)) (endBytes (st i))
-        go (empty e) = subst (λ (p : Parcel). Held b (ringsAt P + 2 * firstRing b (before st i)) (endBytes p)) (sym e) (nothing-held _)
-        go (taken e) =
-            subst (λ (p : Parcel). Held b (ringsAt P + 2 * firstRing b (before st i)) (endBytes p)) (sym (e .is))
-            (join-held b (ringsAt P + 2 * firstRing b (before st i)) (λ r. u16Bytes (getD (endsAt b (before st i)) r 0)) (length (endsAt b (before st i)))
-            (λ r l. word-held _ _ (end-at (before st i) r (omega (arith, l, ring-total b good (before st i) (e .low))))))
+    module _ (i : ℕ) where
+      abbrev entry : Parcel → List ℕ
+      entry p = entryBytes i (occupied p) (length (endList p))
 
-    numbers-held : (i : ℕ) → i < slots → Held b (verticesAt P (ringCount b) + 8 * firstVertex b (before st i)) (vertexBytes (st i))
-    numbers-held i h = go (slot-is i h)
-      where
-        go : Slot i → Held b (verticesAt P (ringCount b) + 8 * firstVertex b (before st i)) (vertexBytes (st i))
-        go (empty e) = subst (λ (p : Parcel). Held b (verticesAt P (ringCount b) + 8 * firstVertex b (before st i)) (vertexBytes p)) (sym e) (nothing-held _)
-        go (taken e) =
-            subst (λ (p : Parcel). Held b (verticesAt P (ringCount b) + 8 * firstVertex b (before st i)) (vertexBytes p)) (sym (e .is))
-            (join-held b (verticesAt P (ringCount b) + 8 * firstVertex b (before st i)) (λ k. i32Bytes (getD (numbersAt b (before st i)) k (pos 0))) (2 * lastEnd (endsAt b (before st i)))
-            (λ k l. held-i32 b _ _ low (number-at (before st i) k l)))
+      abbrev ends : Parcel → List ℕ
+      ends p = wordBytes (endList p) (length (endList p))
 
-    all-entries : Held b parcelsAt (E st)
+      abbrev numbers : Parcel → List ℕ
+      numbers p = numberBytes (coordinateList p) (2 * lastEnd (endList p))
+
+      entry-held : Slot i → Held b (parcelsAt + 4 * before i) (entry (st i))
+      entry-held (empty e) = subst (λ (p : Parcel). Held b (parcelsAt + 4 * before i) (entry p)) (sym e) (nothing-held _)
+      entry-held (taken e) =
+          subst (λ (p : Parcel). Held b (parcelsAt + 4 * before i) (entry p)) (sym (e .is))
+          (held-append b (parcelsAt + 4 * before i) (u16Bytes i) (u16Bytes (length (endsAt b (before i)))) (word-held _ i (e .names))
+          (word-held (parcelsAt + 4 * before i + 2) _ (sym (length-ends b (before i)))))
+
+      ends-held : Slot i → Held b (ringsAt P + 2 * firstRing b (before i)) (ends (st i))
+      unfolding joined
+      ends-held (empty e) = subst (λ (p : Parcel). Held b (ringsAt P + 2 * firstRing b (before i)) (ends p)) (sym e) (nothing-held _)
+      ends-held (taken e) =
+          subst (λ (p : Parcel). Held b (ringsAt P + 2 * firstRing b (before i)) (ends p)) (sym (e .is))
+          (join-held b (ringsAt P + 2 * firstRing b (before i)) (λ r. u16Bytes (getD (endsAt b (before i)) r 0)) (length (endsAt b (before i)))
+          (λ r l. word-held _ _ (end-at (before i) r (omega (arith, l, length-ends b (before i))))))
+
+      numbers-held : Slot i → Held b (verticesAt P (ringCount b) + 8 * firstVertex b (before i)) (numbers (st i))
+      unfolding joined
+      numbers-held (empty e) = subst (λ (p : Parcel). Held b (verticesAt P (ringCount b) + 8 * firstVertex b (before i)) (numbers p)) (sym e) (nothing-held _)
+      numbers-held (taken e) =
+          subst (λ (p : Parcel). Held b (verticesAt P (ringCount b) + 8 * firstVertex b (before i)) (numbers p)) (sym (e .is))
+          (join-held b (verticesAt P (ringCount b) + 8 * firstVertex b (before i)) (λ k. i32Bytes (getD (numbersAt b (before i)) k (pos 0))) (2 * lastEnd (endsAt b (before i)))
+          (λ k l. held-i32 b _ _ low (number-at (before i) k l)))
+
+    -- ---- the parts
+    all-entries : Held b parcelsAt (entryPart st slots)
     all-entries =
-        join-held b parcelsAt (λ i. entryBytes i (st i)) slots
-        (λ i l. subst (λ (z : ℕ). Held b (parcelsAt + z) (entryBytes i (st i))) (sym (entries-to st i)) (entry-held i l))
+        join-held b parcelsAt (λ i. entry i (st i)) slots
+        (λ i l. subst (λ (z : ℕ). Held b (parcelsAt + z) (entry i (st i))) (sym (sym (length-joined (λ k. entry k (st k)) i) ∙ entries-length st i)) (entry-held i (slot-is i l)))
 
-    all-ends : Held b (ringsAt P) (N st)
+    all-ends : Held b (ringsAt P) (endPart st slots)
     all-ends =
-        join-held b (ringsAt P) (λ i. endBytes (st i)) slots
-        (λ i l. subst (λ (z : ℕ). Held b (ringsAt P + z) (endBytes (st i))) (sym (ends-to st i ∙ ap (λ (z : ℕ). 2 * z) (rings-to i (omega arith)))) (ends-held i l))
+        join-held b (ringsAt P) (λ i. ends i (st i)) slots
+        (λ i l. subst (λ (z : ℕ). Held b (ringsAt P + z) (ends i (st i)))
+        (sym (sym (length-joined (λ k. ends k (st k)) i) ∙ ends-length st i ∙ ap (λ (z : ℕ). 2 * z) (rings-to i (omega arith)))) (ends-held i (slot-is i l)))
 
-    all-numbers : Held b (verticesAt P (ringCount b)) (X st)
+    all-numbers : Held b (verticesAt P (ringCount b)) (vertexPart st slots)
     all-numbers =
-        join-held b (verticesAt P (ringCount b)) (λ i. vertexBytes (st i)) slots
-        (λ i l. subst (λ (z : ℕ). Held b (verticesAt P (ringCount b) + z) (vertexBytes (st i))) (sym (bytes-to st i ∙ ap (λ (z : ℕ). 8 * z) (vertices-to i (omega arith)))) (numbers-held i l))
+        join-held b (verticesAt P (ringCount b)) (λ i. numbers i (st i)) slots
+        (λ i l. subst (λ (z : ℕ). Held b (verticesAt P (ringCount b) + z) (numbers i (st i)))
+        (sym (sym (length-joined (λ k. numbers k (st k)) i) ∙ vertices-length st i ∙ ap (λ (z : ℕ). 8 * z) (vertices-to i (omega arith)))) (numbers-held i (slot-is i l)))
+
+    abbrev header : List ℕ
+    header = headerOf (parcelsBelow st slots) (ringsBelow st slots) (verticesBelow st slots)
+
+    words : (k : ℕ) → k < 6 → u16At b (2 * k) ≡ getD header k 0
+    words zero l = sym parcels-all
+    words (suc zero) l = sym rings-all
+    words (suc (suc zero)) l = sym vertices-all
+    words (suc (suc (suc zero))) l = good .parcels-offset
+    words (suc (suc (suc (suc zero)))) l = good .rings-offset ∙ ap ringsAt (sym parcels-all)
+    words (suc (suc (suc (suc (suc zero))))) l = good .vertices-offset ∙ sym (rw (parcels-all, rings-all) refl)
+    words (suc (suc (suc (suc (suc (suc k)))))) l = absurd (omega arith)
+
+    header-held : Held b 0 (wordBytes header 6)
+    header-held = join-held b 0 (λ k. u16Bytes (getD header k 0)) 6 (λ k l. word-held (0 + sumTo (λ j. 2) k) (getD header k 0) (place k ∙ words k l))
+      where
+        place : (k : ℕ) → u16At b (0 + sumTo (λ j. 2) k) ≡ u16At b (2 * k)
+        place k = let e : 0 + sumTo (λ j. 2) k ≡ 2 * k = omega (arith, sum-const 2 k) in ap (u16At b) e
 
     whole-held : Held b 0 (cardOf (parcelIn b))
-    unfolding cardOf
+    unfolding cardOf joined
     whole-held =
-        let p : parcelTotal st ≡ P = parcels-all in
-        let r : ringTotal st ≡ ringCount b = rings-all in
-        let e : 12 + length (E st) ≡ ringsAt P = omega (arith, entries-length st, p) in
-        let n : ringsAt P + length (N st) ≡ verticesAt P (ringCount b) = omega (arith, ends-length st, r) in
-        let h7 : Held b (ringsAt P) (N st ++ X st) = held-append b (ringsAt P) (N st) (X st) all-ends (subst (λ (z : ℕ). Held b z (X st)) (sym n) all-numbers) in
-        let h6 : Held b 12 (E st ++ (N st ++ X st)) = held-append b 12 (E st) (N st ++ X st) all-entries (subst (λ (z : ℕ). Held b z (N st ++ X st)) (sym e) h7) in
-        let l6 = E st ++ (N st ++ X st) in
-        let w5 = u16Bytes (verticesAt (parcelTotal st) (ringTotal st)) in
-        let w4 = u16Bytes (ringsAt (parcelTotal st)) in
-        let w3 = u16Bytes parcelsAt in
-        let w2 = u16Bytes (vertexTotal st) in
-        let w1 = u16Bytes (ringTotal st) in
-        let w0 = u16Bytes (parcelTotal st) in
-        let h5 = held-append b 10 w5 l6 (word-held 10 (verticesAt (parcelTotal st) (ringTotal st)) (rw (p, r) (header .third))) h6 in
-        let h4 = held-append b 8 w4 (w5 ++ l6) (word-held 8 (ringsAt (parcelTotal st)) (header .second ∙ ap ringsAt (sym p))) h5 in
-        let h3 = held-append b 6 w3 (w4 ++ (w5 ++ l6)) (word-held 6 parcelsAt (header .first)) h4 in
-        let h2 = held-append b 4 w2 (w3 ++ (w4 ++ (w5 ++ l6))) (word-held 4 (vertexTotal st) (sym vertices-all)) h3 in
-        let h1 = held-append b 2 w1 (w2 ++ (w3 ++ (w4 ++ (w5 ++ l6)))) (word-held 2 (ringTotal st) (sym r)) h2 in
-        held-append b 0 w0 (w1 ++ (w2 ++ (w3 ++ (w4 ++ (w5 ++ l6))))) (word-held 0 (parcelTotal st) (sym p)) h1
+        let p : parcelsBelow st slots ≡ P = parcels-all in
+        let e : 12 + length (entryPart st slots) ≡ ringsAt P = omega (arith, entries-length st slots, p) in
+        let n : ringsAt P + length (endPart st slots) ≡ verticesAt P (ringCount b) = omega (arith, ends-length st slots, rings-all) in
+        let h7 : Held b (ringsAt P) (endPart st slots ++ vertexPart st slots) = held-append b (ringsAt P) (endPart st slots) (vertexPart st slots) all-ends (subst (λ (z : ℕ). Held b z (vertexPart st slots)) (sym n) all-numbers) in
+        let h6 : Held b 12 (entryPart st slots ++ (endPart st slots ++ vertexPart st slots)) = held-append b 12 (entryPart st slots) (endPart st slots ++ vertexPart st slots) all-entries (subst (λ (z : ℕ). Held b z (endPart st slots ++ vertexPart st slots)) (sym e) h7) in
+        held-append b 0 (wordBytes header 6) (entryPart st slots ++ (endPart st slots ++ vertexPart st slots)) header-held h6
 
     pub one-form : cardOf (parcelIn b) ≡ b
     one-form =
         ext-getD 0 (cardOf (parcelIn b)) b
-        (omega (arith, written-length st, header .total, parcels-all, rings-all, vertices-all))
+        (omega (arith, written-length st, good .whole-length, parcels-all, rings-all, vertices-all))
         (λ i l. sym (whole-held i l) ∙ ap (λ (z : ℕ). getD b z 0) (plain i))
       where
         plain : (a : ℕ) → 0 + a ≡ a

@@ -1,151 +1,102 @@
 -- Condition 3: any run of calls on an empty sheet.
+--   standing-together   what stands may stand together, and each parcel keeps rules 1 to 7
 --   run-layout        the sheet is the layout of what stands
 --   run-fresh         and equals a fresh one into which what stands is put once each in rising slot order
 --   standing-means    what stands is what was last accepted in its slot and not taken out since
 use mathlib.Core.Path.{_≡_, refl, sym, _∙_, ap}
 use mathlib.Core.Logic.{_↔_}
-use mathlib.Core.Bool.{Bool, true, false, _&&_}
+use mathlib.Core.Bool.{Bool, true, false}
 use mathlib.Core.List.{List, [], _∷_}
 use Prim.Native.Nat.{ℕ, zero, suc, _≤_, _<_}
 use native.Mathlib.Omega.{arith}
 use native.Mathlib.Decide.{ℕ-discrete, decLt}
 use lib.Dec.{ltb, eqb}
-use lib.IntN.{ℤ}
 use borrow.Author.Tests.{eq-eqb, ne-eqb, eqb-true, eqb-false, lt-ltb, le-ltb, ltb-true}
 use Rattle.plane.specs.Choice.{pick}
 use Rattle.plane.specs.Folds.{turns}
 use Rattle.plane.proofs.Logic.{never, clash, is-false, and-means}
-use Rattle.outline.specs.declared.Checked.{Checked}
-use Rattle.outline.specs.declared.Checked.the-variants.{Accepted, Refused}
+use Rattle.outline.specs.Region.{Region, Parcel, nothing, outline}
 use Rattle.outline.specs.Check.{checkOf, numberOf}
-use Rattle.outline.proofs.Check.{accepted-means, refused-means}
-use Rattle.slots.specs.Layout.{Sheet, Parcel, nothing, outline, layout, slots, recordAt}
-use Rattle.slots.specs.Slots.{countOf}
+use Rattle.layout.specs.Sheet.{Sheet, slots}
+use Rattle.layout.specs.Standing.{occupied, instead, ParcelKeeps, StandTogether}
+use Rattle.layout.specs.Layout.{layout, blank}
+use Rattle.layout.proofs.RightLists.{lists-mean}
+use Rattle.layout.proofs.Standing.{stand-fewer, stand-instead, stand-same, layout-lists, layout-same}
+use Rattle.layout.proofs.Blank.{blank-layout}
 use Rattle.sheet.specs.Changes as Changes
-use Rattle.sheet.specs.Changes.{putNumber, removeNumber, clearNumber, withParcel}
+use Rattle.sheet.proofs.Numbers.{accepted-number}
+use Rattle.sheet.proofs.Layouts as Layouts
 use Rattle.parcels.specs.Reading.{parcelIn}
-use Rattle.card.specs.Load as Load
 use Rattle.parcels.specs.CardNumber.{cardNumber}
+use Rattle.parcels.proofs.Good.{good-means}
+use Rattle.card.specs.Load as Load
 use Rattle.card.specs.Load.{loadNumber}
-use Rattle.parcels.proofs.GoodMeans.{good-means}
-use Rattle.hire.specs.Runs.{Call, put, remove, clear, load, afterRun, AcceptedPut, Spares, put-elsewhere, put-refused, removed-elsewhere, load-refused, Stands, just-put, just-loaded, still, instead, standing, putParcel, fresh}
-use Rattle.outline.proofs.Fits.{accepted-fits}
-use Rattle.hire.proofs.Sound.{Sound, sound-card}
-use Rattle.sheet.proofs.Standing.{layout-same}
-use Rattle.hire.proofs.Layouts.{layout-lists, layout-whole, layout-with, count-is}
+use Rattle.card.proofs.Loading.{good-stands}
+use Rattle.hire.specs.Runs.{Call, put, remove, clear, load, afterRun, AcceptedPut, Spares, put-elsewhere, put-refused, removed-elsewhere, load-refused, Stands, just-put, just-loaded, still, accepts, standing, putParcel, fresh}
 
--- number 0 is acceptance
-pub number-zero : (xs : List ℤ) (ends : List ℕ) → numberOf (checkOf xs ends) ≡ 0 → checkOf xs ends ≡ Accepted
-number-zero xs ends h = go (checkOf xs ends) refl h
-  where
-    broken : (n r : ℕ) → checkOf xs ends ≡ Refused n r → n ≡ 0 → ⊥
-    broken zero r e z = refused-means xs ends zero r .0 e .broken
-    broken (suc n) r e z = omega arith
+accepts-means : (i : ℕ) (R : Region) → (accepts i R ≡ true) ↔ AcceptedPut i R
+accepts-means i R =
+    let m = and-means (ltb i slots) (eqb (numberOf (checkOf R)) 0) in (
+      λ t. (ltb-true i slots (m .0 t .0), accepted-number R .0 (eqb-true _ 0 (m .0 t .1))),
+      λ a. m .1 (lt-ltb i slots (a .0), eq-eqb _ 0 (accepted-number R .1 (a .1))),
+    )
 
-    go : (c : Checked) → checkOf xs ends ≡ c → numberOf c ≡ 0 → c ≡ Accepted
-    go Accepted e z = refl
-    go (Refused n r) e z = absurd (broken n r e z)
-
--- a test of a put, and what it says
-abbrev taken : ℕ → List ℤ → List ℕ → Bool
-taken i xs ends = ltb i slots && eqb (numberOf (checkOf xs ends)) 0
-
-instead-sound : (st : ℕ → Parcel) (i k : ℕ) (p : Parcel) → Sound p → Sound (st k) → Sound (instead st i p k)
-instead-sound st i k p h g = go (eqb k i)
-  where
-    go : (t : Bool) → Sound (pick t p (st k))
-    go true = h
-    go false = g
-
-pub standing-sound : (cs : List Call) (k : ℕ) → Sound (standing cs k)
-standing-sound [] k = tt
-standing-sound (put i xs ends ∷ cs) k = go (taken i xs ends) refl (standing-sound cs k)
-  where
-    go : (t : Bool) → taken i xs ends ≡ t → Sound (standing cs k) → Sound ((pick t (instead (standing cs) i (outline xs ends)) (standing cs)) k)
-    go true e s = instead-sound (standing cs) i k (outline xs ends) (number-zero xs ends (eqb-true _ 0 (and-means (ltb i slots) _ .0 e .1))) s
-    go false e s = s
-standing-sound (remove i ∷ cs) k = instead-sound (standing cs) i k nothing tt (standing-sound cs k)
-standing-sound (clear ∷ cs) k = tt
-standing-sound (load card ∷ cs) k = go (eqb (cardNumber card) 0) refl (standing-sound cs k)
-  where
-    go : (t : Bool) → eqb (cardNumber card) 0 ≡ t → Sound (standing cs k) → Sound ((pick t (parcelIn card) (standing cs)) k)
-    go true e s = sound-card card k (eqb-true (cardNumber card) 0 e)
-    go false e s = s
+nothing-stands : StandTogether 7 (λ k. nothing)
+nothing-stands = record { each = λ k l. tt }
 
 -- ---- one call on a layout
-module _ (st : ℕ → Parcel) (sound : (k : ℕ) → k < slots → Sound (st k)) where
-  put-layout : (i : ℕ) (xs : List ℤ) (ends : List ℕ) → Changes.put (layout st) i xs ends ≡ layout (pick (taken i xs ends) (instead st i (outline xs ends)) st)
-  unfolding Changes.put putNumber
-  put-layout i xs ends =
-      elim (decLt i slots) [
-        | yes l ↦ simp (layout-lists st, layout-whole st sound, le-ltb 31 i (omega arith), lt-ltb i slots l) (go (eqb (numberOf (checkOf xs ends)) 0))
-        | no l ↦ simp (layout-lists st, lt-ltb 31 i (omega arith), le-ltb i slots (omega arith))
-      ]
-    where
-      go : (t : Bool) → pick t (withParcel (layout st) i (outline xs ends)) (layout st) ≡ layout (pick t (instead st i (outline xs ends)) st)
-      go true = layout-with st sound i (outline xs ends)
-      go false = refl
+module _ (st : ℕ → Parcel) (stand : StandTogether 7 st) where
+  four : StandTogether 4 st
+  four = stand-fewer (omega arith) stand
 
-  -- what stands already nowhere is taken out for nothing
-  gone : (i k : ℕ) → k < slots → (k ≡ i → st i ≡ nothing) → st k ≡ instead st i nothing k
-  gone i k l h =
-      elim (ℕ-discrete k i) [ yes e ↦ ap st e ∙ h e ∙ sym (simp (eq-eqb k i e)) | no e ↦ sym (simp (ne-eqb k i e)) ]
+  put-stands : (i : ℕ) (R : Region) (t : Bool) → accepts i R ≡ t → StandTogether 7 (pick t (instead st i (outline R)) st)
+  put-stands i R true e = stand-instead i (outline R) (accepts-means i R .0 e .1) stand
+  put-stands i R false e = stand
 
-  remove-layout : (i : ℕ) → Changes.remove (layout st) i ≡ layout (instead st i nothing)
-  unfolding Changes.remove removeNumber
-  remove-layout i =
-      elim (decLt i slots) [
-        | yes l ↦ simp (layout-lists st, layout-whole st sound, le-ltb 31 i (omega arith)) (go l (eqb (countOf (layout st) i) 0) refl)
-        | no l ↦ simp (layout-lists st, lt-ltb 31 i (omega arith)) (layout-same st (instead st i nothing) (λ k h. gone i k h (λ e. absurd (omega arith))))
-      ]
-    where
-      empty : i < slots → countOf (layout st) i ≡ 0 → st i ≡ nothing
-      empty l z = look (st i) refl (sound i l)
-        where
-          look : (p : Parcel) → st i ≡ p → Sound p → p ≡ nothing
-          look nothing e s = refl
-          look (outline xs ends) e s = absurd (omega (arith, (accepted-fits xs ends s) .some-ring, sym z ∙ count-is st i l ∙ ap (λ (p : Parcel). recordAt p 0) e))
+  put-layout : (i : ℕ) (R : Region) (t : Bool) → accepts i R ≡ t → Changes.put (layout st) i R ≡ layout (pick t (instead st i (outline R)) st)
+  put-layout i R true e = Layouts.put-layout st four i R (accepts-means i R .0 e .0) (put-stands i R true e)
+  put-layout i R false e = Layouts.put-layout-refused st four i R (λ a. clash (accepts i R) (accepts-means i R .1 a) e)
 
-      go : i < slots → (t : Bool) → eqb (countOf (layout st) i) 0 ≡ t → pick (eqb (pick t 9 0) 0) (withParcel (layout st) i nothing) (layout st) ≡ layout (instead st i nothing)
-      go l true e = layout-same st (instead st i nothing) (λ k h. gone i k h (λ q. empty l (eqb-true _ 0 e)))
-      go l false e = layout-with st sound i nothing
+  load-stands : (card : List ℕ) (t : Bool) → eqb (cardNumber card) 0 ≡ t → StandTogether 7 (pick t (parcelIn card) st)
+  load-stands card true e = good-stands card (good-means card .0 (eqb-true (cardNumber card) 0 e))
+  load-stands card false e = stand
 
   load-layout : (card : List ℕ) → Load.load (layout st) card ≡ layout (pick (eqb (cardNumber card) 0) (parcelIn card) st)
   unfolding Load.load loadNumber
-  load-layout card = simp (layout-lists st) (go (eqb (cardNumber card) 0))
+  load-layout card = rw (lists-mean (layout st) .1 (layout-lists st four)) (go (eqb (cardNumber card) 0))
     where
       go : (t : Bool) → pick t (layout (parcelIn card)) (layout st) ≡ layout (pick t (parcelIn card) st)
       go true = refl
       go false = refl
 
-  clear-layout : Changes.clear (layout st) ≡ layout (λ k. nothing)
-  unfolding Changes.clear clearNumber
-  clear-layout = simp (layout-lists st)
-
 -- ---- a run
-sound-all : (cs : List Call) (k : ℕ) → k < slots → Sound (standing cs k)
-sound-all cs k l = standing-sound cs k
+pub standing-together : (cs : List Call) → StandTogether 7 (standing cs)
+standing-together [] = nothing-stands
+standing-together (put i R ∷ cs) = put-stands (standing cs) (standing-together cs) i R (accepts i R) refl
+standing-together (remove i ∷ cs) = stand-instead i nothing tt (standing-together cs)
+standing-together (clear ∷ cs) = nothing-stands
+standing-together (load card ∷ cs) = load-stands (standing cs) (standing-together cs) card (eqb (cardNumber card) 0) refl
 
 pub run-layout : (cs : List Call) → afterRun cs ≡ layout (standing cs)
-run-layout [] = refl
-run-layout (put i xs ends ∷ cs) = ap (λ (s : Sheet). Changes.put s i xs ends) (run-layout cs) ∙ put-layout (standing cs) (sound-all cs) i xs ends
-run-layout (remove i ∷ cs) = ap (λ (s : Sheet). Changes.remove s i) (run-layout cs) ∙ remove-layout (standing cs) (sound-all cs) i
-run-layout (clear ∷ cs) = ap Changes.clear (run-layout cs) ∙ clear-layout (standing cs) (sound-all cs)
-run-layout (load card ∷ cs) = ap (λ (s : Sheet). Load.load s card) (run-layout cs) ∙ load-layout (standing cs) (sound-all cs) card
+run-layout [] = blank-layout
+run-layout (put i R ∷ cs) = ap (λ (s : Sheet). Changes.put s i R) (run-layout cs) ∙ put-layout (standing cs) (standing-together cs) i R (accepts i R) refl
+run-layout (remove i ∷ cs) = ap (λ (s : Sheet). Changes.remove s i) (run-layout cs) ∙ Layouts.remove-layout (standing cs) (four (standing cs) (standing-together cs)) i
+run-layout (clear ∷ cs) = ap Changes.clear (run-layout cs) ∙ Layouts.clear-layout (standing cs) (four (standing cs) (standing-together cs))
+run-layout (load card ∷ cs) = ap (λ (s : Sheet). Load.load s card) (run-layout cs) ∙ load-layout (standing cs) (standing-together cs) card
 
 -- ---- a fresh sheet
 -- what stands in the slots below n
 below : (ℕ → Parcel) → ℕ → ℕ → Parcel
 below st n k = pick (ltb k n) (st k) nothing
 
-module _ (st : ℕ → Parcel) (sound : (k : ℕ) → k < slots → Sound (st k)) where
-  below-sound : (n k : ℕ) → k < slots → Sound (below st n k)
+module _ (st : ℕ → Parcel) (stand : StandTogether 7 st) where
+  below-stand : (n : ℕ) → StandTogether 7 (below st n)
   unfolding below
-  below-sound n k l = go (ltb k n)
+  below-stand n = record { each = λ k l. go k l (ltb k n) }
     where
-      go : (t : Bool) → Sound (pick t (st k) nothing)
-      go true = sound k l
-      go false = tt
+      go : (k : ℕ) → k < slots → (t : Bool) → ParcelKeeps 7 (pick t (st k) nothing)
+      go k l true = stand .each k l
+      go k l false = tt
 
   one-more : (n k : ℕ) → instead (below st n) n (st n) k ≡ below st (suc n) k
   unfolding below
@@ -155,91 +106,82 @@ module _ (st : ℕ → Parcel) (sound : (k : ℕ) → k < slots → Sound (st k)
         | no e ↦ elim (decLt k n) [ yes l ↦ simp (ne-eqb k n e, lt-ltb k n l, lt-ltb k (suc n) (omega arith)) | no l ↦ simp (ne-eqb k n e, le-ltb k n (omega arith), le-ltb k (suc n) (omega arith)) ]
       ]
 
-  empty-above : (n k : ℕ) → n ≤ k → below st n k ≡ nothing
+  -- where nothing stands in slot n, nothing more comes with it
+  none-more : (n : ℕ) → st n ≡ nothing → (k : ℕ) → below st n k ≡ below st (suc n) k
   unfolding below
-  empty-above n k h = simp (le-ltb k n h)
+  none-more n e k =
+      elim (ℕ-discrete k n) [
+        | yes q ↦ simp (le-ltb k n (omega arith), lt-ltb k (suc n) (omega arith)) (sym (ap st q ∙ e))
+        | no q ↦ sym (simp (ne-eqb k n q)) ∙ one-more n k
+      ]
 
   put-one : (n : ℕ) → n < slots → putParcel (layout (below st n)) n (st n) ≡ layout (below st (suc n))
-  put-one n l = go (st n) (sound n l) ∙ layout-same (instead (below st n) n (st n)) (below st (suc n)) (λ k h. one-more n k)
+  put-one n l = go (st n) refl
     where
-      go : (p : Parcel) → Sound p → putParcel (layout (below st n)) n p ≡ layout (instead (below st n) n p)
-      go nothing s = layout-same (below st n) (instead (below st n) n nothing) (λ k h. gone (below st n) (below-sound n) n k h (λ e. empty-above n n (omega arith)))
-      go (outline xs ends) s =
-          put-layout (below st n) (below-sound n) n xs ends
-          ∙ simp (lt-ltb n slots l, s)
+      go : (p : Parcel) → st n ≡ p → putParcel (layout (below st n)) n p ≡ layout (below st (suc n))
+      go nothing e = layout-same (below st n) (below st (suc n)) (λ k h. none-more n e k)
+      go (outline R) e =
+          let same : (k : ℕ) → k < slots → instead (below st n) n (outline R) k ≡ below st (suc n) k = λ k h. ap (λ (p : Parcel). instead (below st n) n p k) (sym e) ∙ one-more n k in
+          Layouts.put-layout (below st n) (stand-fewer (omega arith) (below-stand n)) n R l (stand-same (below st (suc n)) (instead (below st n) n (outline R)) (λ k h. sym (same k h)) (below-stand (suc n)))
+          ∙ layout-same (instead (below st n) n (outline R)) (below st (suc n)) same
 
-  fresh-to : (n : ℕ) → n ≤ slots → turns (λ i s. putParcel s i (st i)) n Changes.blank ≡ layout (below st n)
-  unfolding turns
-  fresh-to zero h = layout-same (λ k. nothing) (below st 0) (λ k l. sym (empty-above 0 k (omega arith)))
+  fresh-to : (n : ℕ) → n ≤ slots → turns (λ i s. putParcel s i (st i)) n blank ≡ layout (below st n)
+  unfolding turns below
+  fresh-to zero h = blank-layout ∙ layout-same (λ k. nothing) (below st 0) (λ k l. sym (simp (le-ltb k 0 (omega arith))))
   fresh-to (suc n) h = ap (λ (s : Sheet). putParcel s n (st n)) (fresh-to n (omega arith)) ∙ put-one n h
 
-  pub fresh-layout : fresh st ≡ layout st
+  fresh-layout : fresh st ≡ layout st
   unfolding below
   fresh-layout = fresh-to slots (omega arith) ∙ layout-same (below st slots) st (λ k h. rw (lt-ltb k slots h) refl)
 
 pub run-fresh : (cs : List Call) → afterRun cs ≡ fresh (standing cs)
-run-fresh cs = run-layout cs ∙ sym (fresh-layout (standing cs) (sound-all cs))
+run-fresh cs = run-layout cs ∙ sym (fresh-layout (standing cs) (standing-together cs))
 
 -- ---- what stands
-taken-means : (i : ℕ) (xs : List ℤ) (ends : List ℕ) → (taken i xs ends ≡ true) ↔ AcceptedPut i xs ends
-taken-means i xs ends =
-    let m = and-means (ltb i slots) (eqb (numberOf (checkOf xs ends)) 0) in (
-      λ t. (ltb-true i slots (m .0 t .0), accepted-means xs ends .0 (number-zero xs ends (eqb-true _ 0 (m .0 t .1)))),
-      λ a. m .1 (lt-ltb i slots (a .0), eq-eqb _ 0 (ap numberOf (accepted-means xs ends .1 (a .1)))),
-    )
-
 -- a call that spares a slot leaves what stands there
 spared : (cs : List Call) {c : Call} (i : ℕ) → Spares i c → standing (c ∷ cs) i ≡ standing cs i
-spared cs i (put-elsewhere j xs ends ne) = go (taken j xs ends)
+spared cs i (put-elsewhere j R ne) = go (accepts j R)
   where
-    go : (t : Bool) → (pick t (instead (standing cs) j (outline xs ends)) (standing cs)) i ≡ standing cs i
+    go : (t : Bool) → (pick t (instead (standing cs) j (outline R)) (standing cs)) i ≡ standing cs i
     go true = simp (ne-eqb i j (λ e. ne (sym e)))
     go false = refl
-spared cs i (put-refused j xs ends refused) = simp (is-false (taken j xs ends) (λ t. refused (taken-means j xs ends .0 t)))
+spared cs i (put-refused j R refused) = simp (is-false (accepts j R) (λ t. refused (accepts-means j R .0 t)))
 spared cs i (removed-elsewhere j ne) = simp (ne-eqb i j (λ e. ne (sym e)))
 spared cs i (load-refused card ne) = simp (ne-eqb (cardNumber card) 0 (λ e. ne (good-means card .0 e)))
 
-stands-back : {cs : List Call} {i : ℕ} {xs : List ℤ} {ends : List ℕ} → Stands cs i xs ends → standing cs i ≡ outline xs ends
-stands-back (just-put cs i xs ends a) = simp (taken-means i xs ends .1 a, eq-eqb i i refl)
-stands-back (just-loaded cs card i xs ends g e) = simp (eq-eqb (cardNumber card) 0 (good-means card .1 g)) e
-stands-back (still cs c i xs ends s h) = spared cs i s ∙ stands-back h
+stands-back : {cs : List Call} {i : ℕ} {R : Region} → Stands cs i R → standing cs i ≡ outline R
+stands-back (just-put cs i R a) = simp (accepts-means i R .1 a, eq-eqb i i refl)
+stands-back (just-loaded cs card i R g e) = simp (eq-eqb (cardNumber card) 0 (good-means card .1 g)) e
+stands-back (still cs c i R s h) = spared cs i s ∙ stands-back h
 
--- the parts of an outline
-abbrev numbersIn : Parcel → List ℤ
-numbersIn nothing = []
-numbersIn (outline xs ends) = xs
+-- the region of an outline
+abbrev regionOr : Region → Parcel → Region
+regionOr Q nothing = Q
+regionOr Q (outline R) = R
 
-abbrev endsIn : Parcel → List ℕ
-endsIn nothing = []
-endsIn (outline xs ends) = ends
-
-abbrev is-there : Parcel → Bool
-is-there nothing = false
-is-there (outline xs ends) = true
-
-stands-there : (cs : List Call) (i : ℕ) (xs : List ℤ) (ends : List ℕ) → standing cs i ≡ outline xs ends → Stands cs i xs ends
-stands-there [] i xs ends e = never (ap is-there e)
-stands-there (put j ys fs ∷ cs) i xs ends e = go (taken j ys fs) refl (ℕ-discrete i j) (stands-there cs i xs ends) e
+stands-there : (cs : List Call) (i : ℕ) (R : Region) → standing cs i ≡ outline R → Stands cs i R
+stands-there [] i R e = never (ap occupied e)
+stands-there (put j Q ∷ cs) i R e = go (accepts j Q) refl (ℕ-discrete i j) (stands-there cs i R) e
   where
-    go : (t : Bool) → taken j ys fs ≡ t → Dec (i ≡ j) → (standing cs i ≡ outline xs ends → Stands cs i xs ends)
-        → (pick t (instead (standing cs) j (outline ys fs)) (standing cs)) i ≡ outline xs ends → Stands (put j ys fs ∷ cs) i xs ends
+    go : (t : Bool) → accepts j Q ≡ t → Dec (i ≡ j) → (standing cs i ≡ outline R → Stands cs i R)
+        → (pick t (instead (standing cs) j (outline Q)) (standing cs)) i ≡ outline R → Stands (put j Q ∷ cs) i R
     go true q (yes same) rec h =
-        let f : outline ys fs ≡ outline xs ends = simp (eq-eqb i j same) at h in
-        rw (same, ← ap numbersIn f, ← ap endsIn f) (just-put cs j ys fs (taken-means j ys fs .0 q))
-    go true q (no other) rec h = still cs (put j ys fs) i xs ends (put-elsewhere j ys fs (λ z. other (sym z))) (rec (simp (ne-eqb i j other) at h))
-    go false q d rec h = still cs (put j ys fs) i xs ends (put-refused j ys fs (λ a. clash (taken j ys fs) (taken-means j ys fs .1 a) q)) (rec h)
-stands-there (remove j ∷ cs) i xs ends e = go (ℕ-discrete i j) (stands-there cs i xs ends) e
+        let f : outline Q ≡ outline R = simp (eq-eqb i j same) at h in
+        rw (same, ← ap (regionOr Q) f) (just-put cs j Q (accepts-means j Q .0 q))
+    go true q (no other) rec h = still cs (put j Q) i R (put-elsewhere j Q (λ z. other (sym z))) (rec (simp (ne-eqb i j other) at h))
+    go false q d rec h = still cs (put j Q) i R (put-refused j Q (λ a. clash (accepts j Q) (accepts-means j Q .1 a) q)) (rec h)
+stands-there (remove j ∷ cs) i R e = go (ℕ-discrete i j) (stands-there cs i R) e
   where
-    go : Dec (i ≡ j) → (standing cs i ≡ outline xs ends → Stands cs i xs ends) → instead (standing cs) j nothing i ≡ outline xs ends → Stands (remove j ∷ cs) i xs ends
-    go (yes same) rec h = never (ap is-there (simp (eq-eqb i j same) at h))
-    go (no other) rec h = still cs (remove j) i xs ends (removed-elsewhere j (λ z. other (sym z))) (rec (simp (ne-eqb i j other) at h))
-stands-there (clear ∷ cs) i xs ends e = never (ap is-there e)
-stands-there (load card ∷ cs) i xs ends e = go (eqb (cardNumber card) 0) refl (stands-there cs i xs ends) e
+    go : Dec (i ≡ j) → (standing cs i ≡ outline R → Stands cs i R) → instead (standing cs) j nothing i ≡ outline R → Stands (remove j ∷ cs) i R
+    go (yes same) rec h = never (ap occupied (simp (eq-eqb i j same) at h))
+    go (no other) rec h = still cs (remove j) i R (removed-elsewhere j (λ z. other (sym z))) (rec (simp (ne-eqb i j other) at h))
+stands-there (clear ∷ cs) i R e = never (ap occupied e)
+stands-there (load card ∷ cs) i R e = go (eqb (cardNumber card) 0) refl (stands-there cs i R) e
   where
-    go : (t : Bool) → eqb (cardNumber card) 0 ≡ t → (standing cs i ≡ outline xs ends → Stands cs i xs ends)
-        → (pick t (parcelIn card) (standing cs)) i ≡ outline xs ends → Stands (load card ∷ cs) i xs ends
-    go true q rec h = just-loaded cs card i xs ends (good-means card .0 (eqb-true (cardNumber card) 0 q)) h
-    go false q rec h = still cs (load card) i xs ends (load-refused card (λ g. eqb-false (cardNumber card) 0 q (good-means card .1 g))) (rec h)
+    go : (t : Bool) → eqb (cardNumber card) 0 ≡ t → (standing cs i ≡ outline R → Stands cs i R)
+        → (pick t (parcelIn card) (standing cs)) i ≡ outline R → Stands (load card ∷ cs) i R
+    go true q rec h = just-loaded cs card i R (good-means card .0 (eqb-true (cardNumber card) 0 q)) h
+    go false q rec h = still cs (load card) i R (load-refused card (λ g. eqb-false (cardNumber card) 0 q (good-means card .1 g))) (rec h)
 
-pub standing-means : (cs : List Call) (i : ℕ) (xs : List ℤ) (ends : List ℕ) → (standing cs i ≡ outline xs ends) ↔ Stands cs i xs ends
-standing-means cs i xs ends = (stands-there cs i xs ends, stands-back)
+pub standing-means : (cs : List Call) (i : ℕ) (R : Region) → (standing cs i ≡ outline R) ↔ Stands cs i R
+standing-means cs i R = (stands-there cs i R, stands-back)

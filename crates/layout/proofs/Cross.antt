@@ -20,7 +20,7 @@ use Rattle.layout.specs.Sheet.{slots, relationsLength}
 use Rattle.layout.specs.Steps.{crossed}
 
 module _ (cell : ℕ → ℕ → ℕ) (i : ℕ) (il : i < slots) where
-  pub length-cross : (m : ℕ) (l : List ℕ) → length (turns (crossed cell i) m l) ≡ length l
+  length-cross : (m : ℕ) (l : List ℕ) → length (turns (crossed cell i) m l) ≡ length l
   unfolding turns
   length-cross zero l = refl
   length-cross (suc m) l = simp length-set (length-cross m l)

@@ -1,15 +1,15 @@
-pub mod Stores
-pub mod Blocks
-pub mod Cross
+mod Stores
+mod Blocks
+mod Cross
 pub mod RightLists
 pub mod Slots
 pub mod Undamaged
-pub mod SlotTests
+mod SlotTests
 pub mod Refusing
 pub mod Written
 pub mod Renewed
 pub mod Standing
 pub mod Blank
-pub mod SlotCells
+mod SlotCells
 pub mod Steps
 pub mod Rows

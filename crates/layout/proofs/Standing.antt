@@ -2,7 +2,6 @@
 --   layout-lists       its lists have their lengths
 --   layout-parcel      what stands in a slot is read back;  layout-empty  and whether anything does
 --   layout-undamaged   it is undamaged
---   layout-change      only a slot number above the last refuses a change of it;  layout-whole  nothing refuses a call on the whole of it
 --   layout-with        a parcel that comes into slot i of a layout gives the layout with that parcel in slot i
 --   layout-same        a layout hangs on the slots alone
 --   layout-cell        a cell of a layout is that of the two parcels
@@ -12,7 +11,7 @@ use mathlib.Core.Path.{_≡_, refl, sym, ap, ap₂, _∙_, subst}
 use mathlib.Core.Bool.{Bool, true, false, not, _||_}
 use Prim.Native.Nat.{ℕ, _+_, _*_, _/_, _%_, _<_, _≤_}
 use native.Mathlib.Omega.{arith}
-use lib.Dec.{ltb, eqb}
+use lib.Dec.{eqb}
 use lib.IntN.{pos}
 use lib.ListN.{length, getD}
 use Rattle.plane.specs.Choice.{pick}
@@ -20,19 +19,16 @@ use Rattle.plane.specs.TileSet.{one-if}
 use Rattle.plane.proofs.Folds.{sum-le}
 use Rattle.plane.proofs.Lists.{length-tab, getD-tab, tab-same}
 use Rattle.outline.specs.Region.{Parcel, nothing, outline, mostRings, mostVertices, lastEnd}
-use Rattle.outline.specs.Refusals.{numberIf, orElse, slot-number, sheet-lists, sheet-damaged}
 use Rattle.outline.proofs.Keeps.{keeps-fewer}
-use Rattle.layout.specs.Sheet.{sheetOf, slots, lastSlot, room, recordLength, coordinatesLength, recordsLength, relationsLength, RightLists}
+use Rattle.layout.specs.Sheet.{sheetOf, slots, room, recordLength, coordinatesLength, recordsLength, relationsLength, RightLists}
 use Rattle.layout.specs.Standing.{occupied, endList, coordinateList, instead, ParcelKeeps, StandTogether, parcelsBelow, ringsBelow, verticesBelow}
 use Rattle.layout.specs.Layout.{recordNumber, cellOf, layout}
 use Rattle.layout.specs.Slots.{emptyIn, parcelAt, cellIn}
 use Rattle.layout.specs.Damage.{Undamaged}
-use Rattle.layout.specs.Changes.{withParcel, changeNumber, wholeNumber}
+use Rattle.layout.specs.Changes.{withParcel}
 use Rattle.layout.proofs.Blocks.{block-read}
-use Rattle.layout.proofs.RightLists.{lists-mean}
 use Rattle.layout.proofs.Slots.{few-rings, few-vertices, occupied-in, Lies, rings-read, parcel-read}
-use Rattle.layout.proofs.Undamaged.{slot-lists, undamaged-means}
-use Rattle.layout.proofs.Refusing.{whole-means, change-is}
+use Rattle.layout.proofs.Undamaged.{slot-lists}
 
 -- ---- what stands together
 keeps-less : {m n : ℕ} → m ≤ n → (p : Parcel) → ParcelKeeps n p → ParcelKeeps m p
@@ -114,18 +110,6 @@ module _ (st : ℕ → Parcel) (stand : StandTogether 4 st) where
         few-rings = λ i il. rw (rings-read (layout st) i (st i) (lies i il)) (few-rings (st i) (stand .each i il));
         none-breaks = λ i R il e n r lo hi b. (subst (ParcelKeeps 4) (sym (layout-parcel i il) ∙ e) (stand .each i il)) .keeps n r hi b;
       }
-
-  pub layout-whole : wholeNumber (layout st) ≡ 0
-  layout-whole = whole-means (layout st) .1 (layout-lists, layout-undamaged)
-
-  pub layout-change : (i : ℕ) → changeNumber (layout st) i ≡ numberIf (ltb lastSlot i) slot-number
-  layout-change i =
-      change-is (layout st) i false (ltb lastSlot i) false (lists-mean (layout st) .1 layout-lists) refl (undamaged-means (layout st) layout-lists .1 layout-undamaged)
-      ∙ go (ltb lastSlot i)
-    where
-      go : (t : Bool) → orElse (numberIf false sheet-lists) (orElse (numberIf t slot-number) (numberIf false sheet-damaged)) ≡ numberIf t slot-number
-      go true = refl
-      go false = refl
 
   module _ (i : ℕ) (p : Parcel) where
     standing-is : (k : ℕ) → k < slots → instead (parcelAt (layout st)) i p k ≡ instead st i p k

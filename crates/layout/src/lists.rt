@@ -1,4 +1,4 @@
-// The three lists: rule 11, and every number to 0.
+// The three lists and their lengths: rule 11, and every number to 0.
 ghost use mathlib.Core.Path.{_≡_};
 ghost use lib.IntN.{pos};
 ghost use lib.ListN.{length, replicate};
@@ -8,6 +8,10 @@ ghost use Rattle.layout.specs.Layout.{blank};
 pub const SLOTS: usize = 32;
 
 pub const LAST_SLOT: u16 = 31;
+
+pub const ROOM: usize = 128;
+
+pub const RECORD: usize = 9;
 
 pub const COORDINATES: usize = 4096;
 

@@ -1,12 +1,135 @@
-// A parcel into its slot.
+// A parcel into its slot: its room, its record, its row and its column.
 ghost use mathlib.Core.Path.{_≡_};
-ghost use Rattle.outline.specs.Region.{regionOf};
-ghost use Rattle.layout.specs.Sheet.{sheetOf};
+ghost use Prim.Native.Nat.{_+_, _*_, _≤_, _<_};
+ghost use lib.IntN.{pos};
+ghost use lib.ListN.{length, getD};
+ghost use Rattle.plane.specs.Folds.{turns};
+ghost use Rattle.plane.specs.Lists.{stores};
+ghost use Rattle.outline.specs.Region.{regionOf, mostRings};
+ghost use Rattle.outline.specs.Rules.{Keeps};
+ghost use Rattle.relation.specs.Relation.{regionBox, relationOf};
+ghost use Rattle.layout.specs.Sheet.{sheetOf, slots, room, recordLength, coordinatesLength, recordsLength, relationsLength};
+ghost use Rattle.layout.specs.Layout.{recordNumber};
 ghost use Rattle.layout.specs.Changes.{withParcel};
-ghost use Rattle.layout.specs.Steps.{Ready, parcelOf};
-use crate::cells::relate;
-use crate::storage::write_record;
-use crate::storage::write_room;
+ghost use Rattle.layout.specs.Steps.{Whole, Ready, parcelOf, cellFor, crossed};
+use crate::lists::RECORD;
+use crate::lists::ROOM;
+use crate::lists::SLOTS;
+use crate::storage::ends_at;
+use crate::storage::is_empty;
+use crate::storage::outline_at;
+use relation::region_box;
+use relation::region_seen;
+
+// The cell of a parcel with itself: B.
+const SELF_CELL: u16 = 16;
+
+fn number_or_zero(xs: &[i32], k: usize) -> i32
+    ensures { λ z. ⌜ z ≡ getD (now (xs .entry)) k (pos 0) ⌝ }
+{
+    if k < xs.len() {
+        return xs[k];
+    }
+    0
+}
+
+// The outline into the room of its slot, and zeros after it.
+fn write_room(xs: &mut [i32], slot: usize, outline: &[i32])
+    requires { ⌜ (length (now xs) ≡ coordinatesLength) × (slot < slots) ⌝ }
+    ensures { λ _. ⌜ now (xs .exit) ≡ stores (λ k. room * slot + k) (λ k. getD (now (outline .entry)) k (pos 0)) room (now (xs .entry)) ⌝ }
+{
+    let from = ROOM * slot;
+    let mut k = 0;
+    while k < ROOM {
+        let at = from + k;
+        xs[at] = number_or_zero(outline, k);
+        k += 1;
+    }
+}
+
+// Number k of a record: the ring count, then the ends, 0 past the last.
+fn record_number(ends: &[u16], k: usize) -> u16
+    requires { ⌜ length (now ends) ≤ mostRings ⌝ }
+    ensures { λ r. ⌜ r ≡ recordNumber (now (ends .entry)) k ⌝ }
+{
+    if k == 0 {
+        return ends.len() as u16;
+    }
+    let j = k - 1;
+    if j < ends.len() {
+        return ends[j];
+    }
+    0
+}
+
+fn write_record(records: &mut [u16], slot: usize, ends: &[u16])
+    requires { ⌜ (length (now records) ≡ recordsLength) × (slot < slots) × (length (now ends) ≤ mostRings) ⌝ }
+    ensures { λ _. ⌜ now (records .exit) ≡ stores (λ k. recordLength * slot + k) (recordNumber (now (ends .entry))) recordLength (now (records .entry)) ⌝ }
+{
+    let from = RECORD * slot;
+    let mut k = 0;
+    while k < RECORD {
+        let at = from + k;
+        records[at] = record_number(ends, k);
+        k += 1;
+    }
+}
+
+// The relation of the first region to the second: the tiles that it has of the second's box.
+fn relation_of(first: &[i32], first_ends: &[u16], second: &[i32], second_ends: &[u16]) -> u16
+    requires { ⌜ Keeps 4 (regionOf (now first) (now «first_ends»)) × Keeps 4 (regionOf (now second) (now «second_ends»)) ⌝ }
+    ensures { λ r. ⌜ r ≡ relationOf (regionBox (regionOf (now (second .entry)) (now («second_ends» .entry)))) (regionOf (now (first .entry)) (now («first_ends» .entry))) ⌝ }
+{
+    let b = region_box(second, second_ends);
+    let seen = region_seen(b, first, first_ends);
+    seen.set
+}
+
+// The cell that belongs to two slots.
+fn cell_for(xs: &[i32], records: &[u16], primary: usize, reference: usize) -> u16
+    requires { ⌜ Whole (now xs) (now records) × (primary < slots) × (reference < slots) ⌝ }
+    ensures { λ r. ⌜ r ≡ cellFor (now (xs .entry)) (now (records .entry)) primary reference ⌝ }
+{
+    if is_empty(records, primary) {
+        return 0;
+    }
+    if is_empty(records, reference) {
+        return 0;
+    }
+    if primary == reference {
+        return SELF_CELL;
+    }
+    let first = outline_at(xs, records, primary);
+    let first_ends = ends_at(records, primary);
+    let second = outline_at(xs, records, reference);
+    let second_ends = ends_at(records, reference);
+    relation_of(first, first_ends, second, second_ends)
+}
+
+// The cells of two slots, each way round.
+fn relate_one(xs: &[i32], records: &[u16], relations: &mut [u16], slot: usize, k: usize)
+    requires { ⌜ Whole (now xs) (now records) × (length (now relations) ≡ relationsLength) × (slot < slots) × (k < slots) ⌝ }
+    ensures { λ _. ⌜ now (relations .exit) ≡ crossed (cellFor (now (xs .entry)) (now (records .entry))) slot k (now (relations .entry)) ⌝ }
+{
+    let row = cell_for(xs, records, slot, k);
+    let column = cell_for(xs, records, k, slot);
+    let i = SLOTS * slot + k;
+    relations[i] = row;
+    let j = SLOTS * k + slot;
+    relations[j] = column;
+}
+
+// The row and the column of a slot.
+fn relate(xs: &[i32], records: &[u16], relations: &mut [u16], slot: usize)
+    requires { ⌜ Whole (now xs) (now records) × (length (now relations) ≡ relationsLength) × (slot < slots) ⌝ }
+    ensures { λ _. ⌜ now (relations .exit) ≡ turns (crossed (cellFor (now (xs .entry)) (now (records .entry))) slot) slots (now (relations .entry)) ⌝ }
+{
+    let mut k = 0;
+    while k < SLOTS {
+        relate_one(xs, records, relations, slot, k);
+        k += 1;
+    }
+}
 
 // An outline, or nothing where both lists are empty: its room, its record, its row and its column.
 pub fn write_parcel(

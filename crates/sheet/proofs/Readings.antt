@@ -1,33 +1,30 @@
 -- Laws of the readings.
 --   read-is         the number, by the tests that decide it
 --   read-means      a cell is read exactly where the two lists have their lengths, there are such slots, and neither is empty
---   reading-number, reading-value    the number and the value of what reading a cell answers
 --   row-full, row-empty    the row has a cell for each slot where no number applies, and none where one does
 --   bits-ones       the set digits of n % 2 ^ w are the bits of n below w
 use mathlib.Core.Path.{_≡_, refl, sym, ap, _∙_}
 use mathlib.Core.Logic.{_↔_, inl, inr, ⊎-elim}
-use mathlib.Core.Bool.{Bool, true, false, _||_}
+use mathlib.Core.Bool.{Bool, false, _||_}
 use mathlib.Core.List.{List, []}
 use Prim.Native.Nat.{ℕ, zero, suc, _+_, _/_, _%_, _^_, _<_, _≤_}
 use native.Mathlib.Omega.{arith}
 use native.Mathlib.Numerals.{one-add}
 use native.Mathlib.Nat.{mod-lt, add-comm, not-suc-le-zero, le-of-suc-le-suc}
 use lib.Count.{ones, ones-cat}
-use lib.Dec.{ltb, eqb, lit<}
+use lib.Dec.{ltb, lit<}
 use lib.ListN.{length}
 use lib.Pow.{mod-pow-add, pow-pos}
-use borrow.Author.Tests.{eqb-true, ltb-false, le-ltb, eq-eqb, ne-eqb}
-use Rattle.plane.specs.Choice.{pick}
+use borrow.Author.Tests.{ltb-false, le-ltb, eq-eqb, ne-eqb}
 use Rattle.plane.specs.Folds.{sumTo}
 use Rattle.plane.specs.TileSet.{bit}
 use Rattle.plane.proofs.Logic.{clash, is-false, or-means}
 use Rattle.outline.specs.Refusals.{numberIf, orElse, slot-number, slot-empty, sheet-lists}
 use Rattle.outline.proofs.OrElse.{or-else-none, number-if-none}
 use Rattle.layout.specs.Sheet.{slots, lastSlot, wrongTables}
-use Rattle.layout.specs.Slots.{emptyIn, cellIn}
+use Rattle.layout.specs.Slots.{emptyIn}
 use Rattle.layout.proofs.Rows.{row-length}
-use Rattle.sheet.specs.declared.Reading.the-variants.{Relation, Refused}
-use Rattle.sheet.specs.Readings.{readNumber, readingOf, readingNumber, readingValue, rowOf}
+use Rattle.sheet.specs.Readings.{readNumber, rowOf}
 
 -- ---- the number
 pub record Readable (records relations : List ℕ) (i j : ℕ) : Type 0 where
@@ -82,18 +79,6 @@ module _ (records relations : List ℕ) (i j : ℕ) where
       → readNumber records relations i j ≡ orElse (numberIf a sheet-lists) (orElse (numberIf (b || d) slot-number) (numberIf (e || f) slot-empty))
   unfolding readNumber
   read-is a b d e f ea eb ed ee ef = rw (ea, eb, ed, ee, ef) refl
-
-  pub reading-number : readingNumber (readingOf records relations i j) ≡ readNumber records relations i j
-  unfolding readingOf
-  reading-number = go (eqb (readNumber records relations i j) 0) refl
-    where
-      go : (t : Bool) → eqb (readNumber records relations i j) 0 ≡ t → readingNumber (pick t (Relation (cellIn relations i j)) (Refused (readNumber records relations i j))) ≡ readNumber records relations i j
-      go true e = sym (eqb-true _ _ e)
-      go false e = refl
-
-  pub reading-value : readNumber records relations i j ≡ 0 → readingValue (readingOf records relations i j) ≡ cellIn relations i j
-  unfolding readingOf
-  reading-value z = simp (eq-eqb (readNumber records relations i j) 0 z)
 
 -- ---- the row
 module _ (records relations : List ℕ) (i : ℕ) where

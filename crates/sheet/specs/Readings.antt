@@ -1,9 +1,9 @@
 -- Document 01, "The sheet": the readings. They are lent the records and the relations, and never ask whether the sheet is damaged. A cell is
 -- refused by 11, then 8, then 9, each for either slot; a row is that part of the lent table, and empty exactly where one of these numbers
 -- applies. How many tiles a relation has counts its nine low bits.
---   readNumber records relations i j    the refusal of reading the cell of i and j, or 0
+--   readNumber records relations i j    the refusal of reading the cell of i and j, or 0;  readValue  the relation there, 0 beside a refusal
 --   readingOf records relations i j     what reading it answers
---   readingNumber, readingValue         the document's number and value of an answer: number 0 beside a relation, value 0 beside a refusal
+--   readingNumber, readingValue         the document's number and value for each case of an answer
 --   rowOf records relations i           the cells of row i, or none;  rowStart  the place in the table at which the part begins
 --   tileCount v                         how many tiles the relation v has
 use mathlib.Core.Bool.{_||_}
@@ -23,6 +23,9 @@ unfoldable pub readNumber : List ℕ → List ℕ → (i j : ℕ) → ℕ
 readNumber records relations i j =
     orElse (numberIf (wrongTables records relations) sheet-lists)
     (orElse (numberIf (ltb lastSlot i || ltb lastSlot j) slot-number) (numberIf (emptyIn records i || emptyIn records j) slot-empty))
+
+unfoldable pub readValue : List ℕ → List ℕ → (i j : ℕ) → ℕ
+readValue records relations i j = pick (eqb (readNumber records relations i j) 0) (cellIn relations i j) 0
 
 unfoldable pub readingOf : List ℕ → List ℕ → (i j : ℕ) → Reading
 readingOf records relations i j =

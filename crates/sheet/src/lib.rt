@@ -6,15 +6,15 @@ ghost use denote.Ref.{ptr};
 ghost use Rattle.outline.specs.Region.{regionOf};
 ghost use Rattle.layout.specs.Sheet.{sheetOf};
 ghost use Rattle.sheet.specs.Changes.{putNumber, put, removeNumber, remove, clearNumber, clear};
-ghost use Rattle.sheet.specs.Readings.{readNumber, readingOf, readingNumber, rowOf, rowStart, tileCount};
-use layout::cells::cell_in;
-use layout::cells::row_in;
+ghost use Rattle.sheet.specs.Readings.{readNumber, readValue, readingOf, readingNumber, readingValue, rowOf, rowStart, tileCount};
 use layout::lists::LAST_SLOT;
 use layout::lists::clear_lists;
 use layout::lists::wrong_lists;
 use layout::lists::wrong_tables;
 use layout::refused::change_number;
 use layout::storage::is_empty;
+use layout::table::cell_in;
+use layout::table::row_in;
 use layout::writing::write_parcel;
 use outline::Checked;
 use outline::check_region;
@@ -134,6 +134,7 @@ fn read_number(records: &[u16], relations: &[u16], primary: u16, reference: u16)
 pub fn read_cell(records: &[u16], relations: &[u16], primary: u16, reference: u16) -> Reading
     ensures { λ r. ⌜ r ≡ readingOf (now (records .entry)) (now (relations .entry)) primary reference ⌝ }
     ensures { λ r. ⌜ readingNumber r ≡ readNumber (now (records .entry)) (now (relations .entry)) primary reference ⌝ }
+    ensures { λ r. ⌜ readingValue r ≡ readValue (now (records .entry)) (now (relations .entry)) primary reference ⌝ }
 {
     let n = read_number(records, relations, primary, reference);
     if n != 0 {

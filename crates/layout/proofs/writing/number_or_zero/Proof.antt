@@ -2,8 +2,8 @@ use mathlib.Core.Path.{sym}
 use lib.IntN.{pos}
 use lib.ListN.{List·getD-eq-default}
 use borrow.Author.Needs.{needs}
-use Rattle.layout.proofs.storage.number_or_zero.Statement.{statement}
-use Rattle.layout.proofs.storage.number_or_zero.Tie as tie
+use Rattle.layout.proofs.writing.number_or_zero.Statement.{statement}
+use Rattle.layout.proofs.writing.number_or_zero.Tie as tie
 
 mul-result : tie.Need-mul-result
 mul-result c = search needs

@@ -5,8 +5,8 @@ use Rattle.outline.specs.Rules.{Keeps}
 use Rattle.relation.specs.Relation.{regionBox, relationOf}
 use Rattle.layout.specs.Slots.{emptyIn, regionIn}
 use Rattle.layout.proofs.SlotCells.{there-keeps, first-empty, second-empty, self, between}
-use Rattle.layout.proofs.cells.cell_for.Statement.{statement}
-use Rattle.layout.proofs.cells.cell_for.Tie as tie
+use Rattle.layout.proofs.writing.cell_for.Statement.{statement}
+use Rattle.layout.proofs.writing.cell_for.Tie as tie
 
 is-empty-requires : tie.Need-is-empty-requires
 is-empty-requires c κs = let p = c .before .pre in (p .0 .outlined _ (p .1) .counted .record-list, p .1)

@@ -8,8 +8,8 @@ use lib.ListN.{getD}
 use Rattle.layout.specs.Sheet.{room}
 use Rattle.layout.proofs.Stores.{Stored, stored-none, stored-more, stored-all}
 use borrow.Author.Needs.{needs}
-use Rattle.layout.proofs.storage.write_room.Statement.{statement}
-use Rattle.layout.proofs.storage.write_room.Tie as tie
+use Rattle.layout.proofs.writing.write_room.Statement.{statement}
+use Rattle.layout.proofs.writing.write_room.Tie as tie
 
 abbrev Inv-loop : tie.InvT-loop
 Inv-loop xs₀ slot lent from k₀ xs k = Stored (λ j. room * slot + j) (λ j. getD lent j (pos 0)) room xs₀ k xs

@@ -6,8 +6,8 @@ use native.Mathlib.Omega.{arith}
 use lib.ListN.{getD, List·getD-eq-default}
 use Rattle.layout.specs.Layout.{recordNumber}
 use borrow.Author.Needs.{needs}
-use Rattle.layout.proofs.storage.record_number.Statement.{statement}
-use Rattle.layout.proofs.storage.record_number.Tie as tie
+use Rattle.layout.proofs.writing.record_number.Statement.{statement}
+use Rattle.layout.proofs.writing.record_number.Tie as tie
 
 -- a number behind the ring count
 later : (ends : List ℕ) (k : ℕ) → k ≢ 0 → getD ends (k - 1) 0 ≡ recordNumber ends k

@@ -8,8 +8,8 @@ use Rattle.plane.proofs.Folds.{turns-none, turns-more}
 use Rattle.layout.specs.Sheet.{slots, relationsLength}
 use Rattle.layout.specs.Steps.{cellFor, crossed}
 use borrow.Author.Needs.{needs}
-use Rattle.layout.proofs.cells.relate.Statement.{statement}
-use Rattle.layout.proofs.cells.relate.Tie as tie
+use Rattle.layout.proofs.writing.relate.Statement.{statement}
+use Rattle.layout.proofs.writing.relate.Tie as tie
 
 abbrev Inv-loop : tie.InvT-loop
 Inv-loop xs records relations₀ slot k₀ relations k =

@@ -4,8 +4,8 @@ use native.Mathlib.Omega.{arith}
 use lib.ListN.{set, length-set}
 use Rattle.layout.specs.Sheet.{slots}
 use borrow.Author.Needs.{needs}
-use Rattle.layout.proofs.cells.relate_one.Statement.{statement}
-use Rattle.layout.proofs.cells.relate_one.Tie as tie
+use Rattle.layout.proofs.writing.relate_one.Statement.{statement}
+use Rattle.layout.proofs.writing.relate_one.Tie as tie
 
 cell-for-requires : tie.Need-cell-for-requires
 cell-for-requires c κs = search needs

@@ -11,8 +11,8 @@ use Rattle.outline.specs.Check.{shortAt, breaksAt}
 use Rattle.layout.specs.Slots.{ringsIn, endsIn, regionIn}
 use Rattle.layout.proofs.SlotTests.{Looked, none, many, counted, short, high, outlined, sizes-kept, outside}
 use borrow.Author.Needs.{needs}
-use Rattle.layout.proofs.damage.slot_damaged.Statement.{statement}
-use Rattle.layout.proofs.damage.slot_damaged.Tie as tie
+use Rattle.layout.proofs.refused.slot_damaged.Statement.{statement}
+use Rattle.layout.proofs.refused.slot_damaged.Tie as tie
 
 ring-count-requires : tie.Need-ring-count-requires
 ring-count-requires c κs = search needs

@@ -4,8 +4,8 @@ use Rattle.layout.specs.Sheet.{recordLength}
 use Rattle.layout.specs.Layout.{recordNumber}
 use Rattle.layout.proofs.Stores.{Stored, stored-none, stored-more, stored-all}
 use borrow.Author.Needs.{needs}
-use Rattle.layout.proofs.storage.write_record.Statement.{statement}
-use Rattle.layout.proofs.storage.write_record.Tie as tie
+use Rattle.layout.proofs.writing.write_record.Statement.{statement}
+use Rattle.layout.proofs.writing.write_record.Tie as tie
 
 abbrev Inv-loop : tie.InvT-loop
 Inv-loop records₀ slot ends from k₀ records k = Stored (λ j. recordLength * slot + j) (recordNumber ends) recordLength records₀ k records

@@ -1,8 +1,8 @@
 use mathlib.Core.Path.{refl}
 use Rattle.layout.specs.Slots.{cellIn}
 use borrow.Author.Needs.{needs}
-use Rattle.layout.proofs.cells.cell_in.Statement.{statement}
-use Rattle.layout.proofs.cells.cell_in.Tie as tie
+use Rattle.layout.proofs.table.cell_in.Statement.{statement}
+use Rattle.layout.proofs.table.cell_in.Tie as tie
 
 mul-at : tie.Need-mul-at
 mul-at c = search needs

@@ -7,8 +7,8 @@ use Rattle.plane.proofs.Folds.{any-means, any-none}
 use Rattle.layout.specs.Sheet.{slots}
 use Rattle.layout.specs.Damage.{damagedAt}
 use borrow.Author.Needs.{needs}
-use Rattle.layout.proofs.damage.slots_damaged.Statement.{statement}
-use Rattle.layout.proofs.damage.slots_damaged.Tie as tie
+use Rattle.layout.proofs.refused.slots_damaged.Statement.{statement}
+use Rattle.layout.proofs.refused.slots_damaged.Tie as tie
 
 abbrev Inv-loop : tie.InvT-loop
 Inv-loop xs records i₀ i = (i ≤ slots) × ((k : ℕ) → k < i → damagedAt xs records k ≡ false)

@@ -6,8 +6,8 @@ use Rattle.outline.specs.Region.{regionOf}
 use Rattle.relation.specs.Relation.{relationOf}
 use Rattle.relation.proofs.Regions.{region-box-in-places, region-upright}
 use borrow.Author.Needs.{needs}
-use Rattle.layout.proofs.cells.relation_of.Statement.{statement}
-use Rattle.layout.proofs.cells.relation_of.Tie as tie
+use Rattle.layout.proofs.writing.relation_of.Statement.{statement}
+use Rattle.layout.proofs.writing.relation_of.Tie as tie
 
 region-box-requires : tie.Need-region-box-requires
 region-box-requires c κs = search needs

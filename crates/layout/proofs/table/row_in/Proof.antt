@@ -2,8 +2,8 @@ use mathlib.Core.Path.{refl}
 use native.Mathlib.Nat.{add-sub-cancel-left}
 use Rattle.layout.specs.Slots.{rowIn, rowPlace}
 use borrow.Author.Needs.{needs}
-use Rattle.layout.proofs.cells.row_in.Statement.{statement}
-use Rattle.layout.proofs.cells.row_in.Tie as tie
+use Rattle.layout.proofs.table.row_in.Statement.{statement}
+use Rattle.layout.proofs.table.row_in.Tie as tie
 
 mul-from : tie.Need-mul-from
 mul-from c = search needs
