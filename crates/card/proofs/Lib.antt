@@ -1,6 +1,7 @@
-pub mod Lengths
-pub mod Loading
-pub mod Loads
-mod Parts
-mod WholeCard
+pub mod Filling
+pub mod Sums
+pub mod Tests
+pub mod Bounds
+pub mod Good
+pub mod Numbers
 pub mod Only

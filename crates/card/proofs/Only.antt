@@ -1,20 +1,23 @@
--- No second answer fits: two answers that meet the contract of a call for the same arguments are equal, with the lists at exit.
---   load-only          the number and the three lists
---   write-only         number and length, and the buffer
+-- No second answer fits: two answers that meet a contract for the same arguments are equal, with the lists that were lent to be written.
+--   card-number-only, pair-in-only, read-ends-only, read-numbers-only
 use mathlib.Core.Path.{_≡_, sym, _∙_}
 use Prim.Native.Nat.{ℕ}
-use Rattle.layout.specs.Sheet.{sheetOf}
-use Rattle.card.specs.declared.Written.{Written}
-use Rattle.card.proofs.load.Reads as load-reads
-use Rattle.card.proofs.write.Reads as write-reads
+use Rattle.pair.specs.declared.Answer.{Answer}
+use Rattle.card.proofs.rules.card_number.Reads as card-number-reads
+use Rattle.card.proofs.pair_in.Reads as pair-in-reads
+use Rattle.card.proofs.read_ends.Reads as read-ends-reads
+use Rattle.card.proofs.read_numbers.Reads as read-numbers-reads
 
-same : {A B : Type 0} {a a' c : A} {b b' d : B} → (a ≡ c) × (b ≡ d) → (a' ≡ c) × (b' ≡ d) → (a ≡ a') × (b ≡ b')
-same p q = (p .0 ∙ sym (q .0), p .1 ∙ sym (q .1))
+pub card-number-only : (κs : _) (a : _) (r r' : ℕ) (s s' : _) → card-number-reads.Post κs a r s → card-number-reads.Post κs a r' s' → r ≡ r'
+card-number-only κs a r r' s s' p q = p ∙ sym q
 
-pub load-only : (κs : _) (a : _) (r r' : ℕ) (s s' : _) → load-reads.Post κs a r s → load-reads.Post κs a r' s'
-    → (r ≡ r') × (sheetOf (s .0 .now) (s .1 .0 .now) (s .1 .1 .0 .now) ≡ sheetOf (s' .0 .now) (s' .1 .0 .now) (s' .1 .1 .0 .now))
-load-only κs a r r' s s' p q = same p q
+pub pair-in-only : (κs : _) (a : _) (r r' : Answer) (s s' : _) → pair-in-reads.Post κs a r s → pair-in-reads.Post κs a r' s' → r ≡ r'
+pair-in-only κs a r r' s s' p q = p ∙ sym q
 
-pub write-only : (κs : _) (a : _) (r r' : Written) (s s' : _) → write-reads.Post κs a r s → write-reads.Post κs a r' s'
-    → (r ≡ r') × (s .1 .1 .1 .0 .now ≡ s' .1 .1 .1 .0 .now)
-write-only κs a r r' s s' p q = same p q
+pub read-ends-only : (κs : _) (a : _) (r r' : ℕ) (s s' : _) → read-ends-reads.Post κs a r s → read-ends-reads.Post κs a r' s'
+    → (r ≡ r') × (s .1 .1 .0 .now ≡ s' .1 .1 .0 .now)
+read-ends-only κs a r r' s s' p q = let e = p .0 ∙ sym (q .0) in (e, p .1 ∙ rw e (sym (q .1)))
+
+pub read-numbers-only : (κs : _) (a : _) (r r' : ℕ) (s s' : _) → read-numbers-reads.Post κs a r s → read-numbers-reads.Post κs a r' s'
+    → (r ≡ r') × (s .1 .1 .0 .now ≡ s' .1 .1 .0 .now)
+read-numbers-only κs a r r' s s' p q = let e = p .0 ∙ sym (q .0) in (e, p .1 ∙ rw e (sym (q .1)))

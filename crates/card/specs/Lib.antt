@@ -1,3 +1,6 @@
-pub mod Load
-pub mod Write
-pub mod Steps
+pub mod Layout
+pub mod Reading
+pub mod CardNumber
+pub mod Good
+pub mod Right
+pub mod Pairs

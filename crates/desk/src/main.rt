@@ -6,12 +6,12 @@ mod names;
 mod sheets;
 
 use input::Place;
-use requests::Reply;
-use requests::answers;
-use requests::fronts;
 use layout::lists::COORDINATES;
 use layout::lists::RECORDS;
 use layout::lists::RELATIONS;
+use requests::Reply;
+use requests::answers;
+use requests::fronts;
 use requests::lists;
 use requests::lists::COORDINATES_KEPT;
 use requests::lists::RECORDS_KEPT;

@@ -15,8 +15,8 @@ use Rattle.plane.specs.TileSet.{bit}
 use Rattle.relation.specs.Relation.{RegionBox, RegionHas}
 use Rattle.pair.specs.Answer.{pairOf}
 use Rattle.endian.specs.Bytes.{u16At}
-use Rattle.parcels.specs.Reading.{regionAt}
-use Rattle.parcels.proofs.Numbers.{CardsOwn}
+use Rattle.card.specs.Reading.{regionAt}
+use Rattle.card.proofs.Numbers.{CardsOwn}
 use Rattle.host.specs.Report.{reportLength}
 use Rattle.host.proofs.Meaning.{Reported, ReportHas, number-none-means, number-either, report-kept, report-behind, report-named, report-has, report-tile}
 use Rattle.host.proofs.direction_report.Reads as reads

@@ -42,12 +42,12 @@ use Rattle.pair.proofs.Cells.{cellOf, rows-between, columns-between, cell-most}
 use Rattle.pair.proofs.Directions.{directions-below}
 use Rattle.endian.specs.Bytes.{u16At, u16Bytes}
 use Rattle.endian.proofs.Placed.{length-same}
-use Rattle.parcels.specs.Reading.{parcelCount, regionAt}
-use Rattle.parcels.specs.CardNumber.{cardNumber}
-use Rattle.parcels.specs.Good.{GoodCard}
-use Rattle.parcels.specs.Pairs.{pairIn}
-use Rattle.parcels.proofs.Good.{good-means}
-use Rattle.parcels.proofs.Numbers.{CardsOwn, card-number-either, not-good-means}
+use Rattle.card.specs.Reading.{parcelCount, regionAt}
+use Rattle.card.specs.CardNumber.{cardNumber}
+use Rattle.card.specs.Good.{GoodCard}
+use Rattle.card.specs.Pairs.{pairIn}
+use Rattle.card.proofs.Good.{good-means}
+use Rattle.card.proofs.Numbers.{CardsOwn, card-number-either, not-good-means}
 use Rattle.host.specs.Report.{reportNumbers, reportLength, reportBytes, hostNumber, hostReport}
 use Rattle.host.proofs.Report.{report-short, report-card, report-parcels, report-done}
 use Rattle.host.proofs.Words.{word-read, Small, small-none, small-more, small-append}

@@ -14,9 +14,9 @@ use Rattle.pair.specs.Answer.{reportWords}
 use Rattle.endian.specs.Bytes.{u16Bytes}
 use Rattle.endian.specs.Placed.{placed}
 use Rattle.endian.proofs.Placed.{length-same, placed-whole}
-use Rattle.parcels.specs.Reading.{parcelCount}
-use Rattle.parcels.specs.CardNumber.{cardNumber}
-use Rattle.parcels.specs.Pairs.{pairIn}
+use Rattle.card.specs.Reading.{parcelCount}
+use Rattle.card.specs.CardNumber.{cardNumber}
+use Rattle.card.specs.Pairs.{pairIn}
 use Rattle.host.specs.Report.{reportNumbers, reportLength, reportBytes, hostNumber, hostReport}
 
 report-long : (a : Answer) → length (reportBytes a) ≡ reportLength

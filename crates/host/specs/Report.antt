@@ -14,9 +14,9 @@ use Rattle.outline.specs.Refusals.{numberIf, orElse, buffer-short, not-two-parc
 use Rattle.pair.specs.declared.Answer.{Answer}
 use Rattle.pair.specs.Answer.{reportWords}
 use Rattle.endian.specs.Placed.{wordBytes}
-use Rattle.parcels.specs.Reading.{parcelCount}
-use Rattle.parcels.specs.CardNumber.{cardNumber}
-use Rattle.parcels.specs.Pairs.{pairIn}
+use Rattle.card.specs.Reading.{parcelCount}
+use Rattle.card.specs.CardNumber.{cardNumber}
+use Rattle.card.specs.Pairs.{pairIn}
 
 abbrev pub reportNumbers : ℕ
 reportNumbers = 19

@@ -9,9 +9,9 @@ use native.Mathlib.Omega.{arith}
 use native.Mathlib.Decide.{decLt}
 use lib.ListN.{length, take}
 use lib.Seq.{take-all, length-take-le}
-use Rattle.parcels.specs.CardNumber.{wrongHeader, cardNumber}
-use Rattle.parcels.proofs.Tests.{header-means}
-use Rattle.parcels.proofs.Good.{card-header-wrong}
+use Rattle.card.specs.CardNumber.{wrongHeader, cardNumber}
+use Rattle.card.proofs.Tests.{header-means}
+use Rattle.card.proofs.Good.{card-header-wrong}
 use Rattle.listing.specs.Listing.{listing}
 
 pub long-refused : (b : List ℕ) → 17036 < length b → cardNumber b ≡ 14

@@ -26,9 +26,9 @@ use Rattle.pair.specs.Answer.{given, pairOf}
 use Rattle.pair.proofs.Laws.{Answered, fields-are, some-tile, tile-means, pieces-between, relation-below}
 use Rattle.pair.proofs.Laws as pair
 use Rattle.pair.proofs.Compass.{Lies, direction-means}
-use Rattle.parcels.specs.Reading.{parcelCount, slotAt, regionAt}
-use Rattle.parcels.specs.Good.{GoodCard}
-use Rattle.parcels.specs.Pairs.{pairIn}
+use Rattle.card.specs.Reading.{parcelCount, slotAt, regionAt}
+use Rattle.card.specs.Good.{GoodCard}
+use Rattle.card.specs.Pairs.{pairIn}
 use Rattle.listing.specs.Names.{nameOf, namesOf, B, O}
 use Rattle.listing.specs.Listing.{space, lineFeed, decimal, pairLine, lineOf}
 use Rattle.listing.proofs.NameWords.{Starts, between, setBits, set-bits-mean, set-bits-rise, names-are, names-start, some-bit}

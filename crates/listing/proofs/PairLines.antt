@@ -19,11 +19,11 @@ use borrow.Author.Tests.{eq-eqb, ne-eqb}
 use Rattle.plane.specs.Choice.{pick}
 use Rattle.pair.specs.declared.Answer.{Answer}
 use Rattle.endian.specs.Bytes.{joined}
-use Rattle.parcels.specs.Reading.{parcelCount, slotAt}
-use Rattle.parcels.specs.CardNumber.{cardNumber}
-use Rattle.parcels.proofs.Tests.{header-means}
-use Rattle.parcels.proofs.Good.{good-means, good-right}
-use Rattle.parcels.specs.Pairs.{pairIn}
+use Rattle.card.specs.Reading.{parcelCount, slotAt}
+use Rattle.card.specs.CardNumber.{cardNumber}
+use Rattle.card.proofs.Tests.{header-means}
+use Rattle.card.proofs.Good.{good-means, good-right}
+use Rattle.card.specs.Pairs.{pairIn}
 use Rattle.listing.specs.Names.{namesOf, B, O}
 use Rattle.listing.specs.Listing.{space, lineFeed, decimal, parcelsWord, refusedWord, pairLine, lineOf, listing}
 use Rattle.listing.specs.Steps.{rowOf}

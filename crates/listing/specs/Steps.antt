@@ -11,7 +11,7 @@ use lib.ListN.{length}
 use Rattle.plane.specs.Choice.{pick}
 use Rattle.plane.specs.TileSet.{bit}
 use Rattle.endian.specs.Bytes.{joined}
-use Rattle.parcels.specs.Reading.{parcelCount}
+use Rattle.card.specs.Reading.{parcelCount}
 use Rattle.endian.specs.Placed.{placed}
 use Rattle.listing.specs.Names.{colon, colonAfter, nameOf, namesTo}
 use Rattle.listing.specs.Listing.{lineOf}

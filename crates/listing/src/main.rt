@@ -9,11 +9,11 @@ mod lines;
 mod names;
 mod texts;
 
+use card::parcel_count;
+use card::rules::card_number;
 use libc::STDERR_FILENO;
 use libc::STDOUT_FILENO;
 use lines::put_rows;
-use parcels::parcel_count;
-use parcels::rules::card_number;
 use texts::put_number;
 use texts::put_text;
 use words::LINE_FEED;

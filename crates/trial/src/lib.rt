@@ -20,7 +20,12 @@ pub extern "C" fn trial_check(outline: &[i32], ends: &[u16]) -> u32 {
 
 // The relation of the first region to the second, and 65,536 times the pieces of the first. The second's box is found here.
 #[no_mangle]
-pub extern "C" fn trial_relation(first: &[i32], first_ends: &[u16], second: &[i32], second_ends: &[u16]) -> u32
+pub extern "C" fn trial_relation(
+    first: &[i32],
+    first_ends: &[u16],
+    second: &[i32],
+    second_ends: &[u16],
+) -> u32
     requires { ⌜ Keeps 4 (regionOf (now first) (now «first_ends»)) × Keeps 4 (regionOf (now second) (now «second_ends»)) ⌝ }
 {
     let b = region_box(second, second_ends);
@@ -30,19 +35,36 @@ pub extern "C" fn trial_relation(first: &[i32], first_ends: &[u16], second: &[i3
 
 // The relation of the first region to the second and 65,536 times that of the second to the first; 0 beside a refusal.
 #[no_mangle]
-pub extern "C" fn trial_pair(first: &[i32], first_ends: &[u16], second: &[i32], second_ends: &[u16]) -> u32 {
+pub extern "C" fn trial_pair(
+    first: &[i32],
+    first_ends: &[u16],
+    second: &[i32],
+    second_ends: &[u16],
+) -> u32 {
     let a = pair_of(first, first_ends, second, second_ends);
     a.first as u32 + 65536 * a.second as u32
 }
 
 // A put, and a load of a card.
 #[no_mangle]
-pub extern "C" fn trial_put(xs: &mut [i32], records: &mut [u16], relations: &mut [u16], slot: u32, outline: &[i32], ends: &[u16]) -> u32 {
+pub extern "C" fn trial_put(
+    xs: &mut [i32],
+    records: &mut [u16],
+    relations: &mut [u16],
+    slot: u32,
+    outline: &[i32],
+    ends: &[u16],
+) -> u32 {
     let s = (slot % 65536) as u16;
     sheet::put(xs, records, relations, s, outline, ends) as u32
 }
 
 #[no_mangle]
-pub extern "C" fn trial_load(xs: &mut [i32], records: &mut [u16], relations: &mut [u16], bytes: &[u8]) -> u32 {
-    card::load(xs, records, relations, bytes) as u32
+pub extern "C" fn trial_load(
+    xs: &mut [i32],
+    records: &mut [u16],
+    relations: &mut [u16],
+    bytes: &[u8],
+) -> u32 {
+    transfer::load(xs, records, relations, bytes) as u32
 }

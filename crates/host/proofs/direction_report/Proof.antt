@@ -7,9 +7,9 @@ use borrow.Author.Needs.{needs}
 use Rattle.pair.specs.declared.Answer.{Answer}
 use Rattle.pair.specs.Answer.{reportWords}
 use Rattle.endian.specs.Placed.{placed, wordBytes}
-use Rattle.parcels.specs.Reading.{parcelCount}
-use Rattle.parcels.specs.CardNumber.{cardNumber}
-use Rattle.parcels.proofs.Good.{good-means}
+use Rattle.card.specs.Reading.{parcelCount}
+use Rattle.card.specs.CardNumber.{cardNumber}
+use Rattle.card.proofs.Good.{good-means}
 use Rattle.host.specs.Report.{reportNumbers, reportLength, reportBytes}
 use Rattle.host.proofs.Report.{report-short, report-card, report-parcels, report-pair, report-done}
 use Rattle.host.proofs.direction_report.Statement.{statement}

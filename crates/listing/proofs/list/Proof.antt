@@ -5,8 +5,8 @@ use Prim.Native.Nat.{ℕ, _+_, _≤_}
 use native.Mathlib.Omega.{arith}
 use lib.ListN.{length, drop}
 use Rattle.endian.specs.Bytes.{joined}
-use Rattle.parcels.specs.Reading.{parcelCount}
-use Rattle.parcels.specs.CardNumber.{cardNumber}
+use Rattle.card.specs.Reading.{parcelCount}
+use Rattle.card.specs.CardNumber.{cardNumber}
 use Rattle.listing.specs.Listing.{lineFeed, decimal, parcelsWord, refusedWord, listing}
 use Rattle.listing.specs.Steps.{Put, rowOf}
 use Rattle.listing.proofs.Putting.{put-as, put-then, put-whole, room-first, room-next}
@@ -15,8 +15,8 @@ use Rattle.listing.proofs.list.Statement.{statement}
 use Rattle.listing.proofs.list.Tie as tie
 use Rattle.listing.proofs.list.Reads as reads
 use Rattle.listing.proofs.list.Lts as lts
-use Rattle.parcels.proofs.parcel_count.Reads as parcel-count-reads
-use Rattle.parcels.proofs.rules.card_number.Reads as card-number-reads
+use Rattle.card.proofs.parcel_count.Reads as parcel-count-reads
+use Rattle.card.proofs.rules.card_number.Reads as card-number-reads
 use Rattle.listing.proofs.lines.put_rows.Reads as put-rows-reads
 use Rattle.listing.proofs.texts.put_number.Reads as put-number-reads
 use Rattle.listing.proofs.texts.put_text.Reads as put-text-reads

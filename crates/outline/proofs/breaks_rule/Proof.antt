@@ -51,9 +51,10 @@ module _ (c : tie.After-size-of) where
 
   sizes : (3 ≤ c .size-of .result) × (c .size-of .result ≤ mostEdges)
   sizes =
-      answered (λ from n. (3 ≤ n) × (n ≤ mostEdges)) (c .before .start-of .ensures) (c .size-of .ensures)
-      (omega (arith, size-least (region begin .ends) (kept begin .grown) ring (begin .pre .3)),
-      omega (arith, ring-in-last (region begin .ends) (kept begin .grown) ring (begin .pre .3), kept begin .small))
+      answered (λ from n. (3 ≤ n) × (n ≤ mostEdges)) (c .before .start-of .ensures) (c .size-of .ensures) (
+        omega (arith, size-least (region begin .ends) (kept begin .grown) ring (begin .pre .3)),
+        omega (arith, ring-in-last (region begin .ends) (kept begin .grown) ring (begin .pre .3), kept begin .small),
+      )
 
   -- a test of the stretch is one of the ring
   told : (t : ℕ → ℕ → Bool) {b : Bool} → b ≡ t (c .before .start-of .result) (c .size-of .result)

@@ -2,8 +2,8 @@ use borrow.Author.Needs.{needs}
 use mathlib.Core.Path.{_≡_, sym, ap}
 use native.Mathlib.Omega.{arith}
 use lib.ListN.{length}
-use Rattle.parcels.proofs.Good.{good-means, good-right}
-use Rattle.parcels.proofs.Bounds.{entry-there}
+use Rattle.card.proofs.Good.{good-means, good-right}
+use Rattle.card.proofs.Bounds.{entry-there}
 use Rattle.listing.specs.Listing.{pairLine, lineOf}
 use Rattle.listing.proofs.Putting.{put-none, put-as}
 use Rattle.listing.proofs.PairLines.{line-none, line-some}
@@ -11,8 +11,8 @@ use Rattle.listing.proofs.lines.put_pair.Statement.{statement}
 use Rattle.listing.proofs.lines.put_pair.Tie as tie
 use Rattle.listing.proofs.lines.put_pair.Reads as reads
 use Rattle.listing.proofs.lines.put_pair.Lts as lts
-use Rattle.parcels.proofs.slot_at.Reads as slot-at-reads
-use Rattle.parcels.proofs.pair_in.Reads as pair-in-reads
+use Rattle.card.proofs.slot_at.Reads as slot-at-reads
+use Rattle.card.proofs.pair_in.Reads as pair-in-reads
 use Rattle.listing.proofs.lines.put_line.Reads as put-line-reads
 
 -- the line that is put

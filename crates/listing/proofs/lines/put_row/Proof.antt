@@ -1,7 +1,7 @@
 use borrow.Author.Needs.{needs}
 use native.Mathlib.Omega.{arith}
 use Prim.Native.Nat.{_-_}
-use Rattle.parcels.specs.Reading.{parcelCount}
+use Rattle.card.specs.Reading.{parcelCount}
 use Rattle.endian.proofs.Running.{Running, running-none, running-room, running-more, running-all}
 use Rattle.listing.specs.Listing.{lineOf}
 use Rattle.listing.proofs.PairLines.{counted}
@@ -9,7 +9,7 @@ use Rattle.listing.proofs.lines.put_row.Statement.{statement}
 use Rattle.listing.proofs.lines.put_row.Tie as tie
 use Rattle.listing.proofs.lines.put_row.Reads as reads
 use Rattle.listing.proofs.lines.put_row.Lts as lts
-use Rattle.parcels.proofs.parcel_count.Reads as parcel-count-reads
+use Rattle.card.proofs.parcel_count.Reads as parcel-count-reads
 use Rattle.listing.proofs.lines.put_pair.Reads as put-pair-reads
 
 abbrev Inv-loop : tie.InvT-loop

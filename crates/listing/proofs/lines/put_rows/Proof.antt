@@ -1,7 +1,7 @@
 use borrow.Author.Needs.{needs}
 use native.Mathlib.Omega.{arith}
 use Prim.Native.Nat.{_-_}
-use Rattle.parcels.specs.Reading.{parcelCount}
+use Rattle.card.specs.Reading.{parcelCount}
 use Rattle.endian.proofs.Running.{Running, running-none, running-room, running-more, running-all}
 use Rattle.listing.specs.Steps.{rowOf}
 use Rattle.listing.proofs.PairLines.{counted}
@@ -9,7 +9,7 @@ use Rattle.listing.proofs.lines.put_rows.Statement.{statement}
 use Rattle.listing.proofs.lines.put_rows.Tie as tie
 use Rattle.listing.proofs.lines.put_rows.Reads as reads
 use Rattle.listing.proofs.lines.put_rows.Lts as lts
-use Rattle.parcels.proofs.parcel_count.Reads as parcel-count-reads
+use Rattle.card.proofs.parcel_count.Reads as parcel-count-reads
 use Rattle.listing.proofs.lines.put_row.Reads as put-row-reads
 
 abbrev Inv-loop : tie.InvT-loop

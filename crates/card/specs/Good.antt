@@ -1,0 +1,28 @@
+-- Document 01, "The card", with rows 14, 15 and 16 of the table: which bytes are a good card.
+--   GoodCard b     every sentence on the layout holds of the bytes b, and every parcel keeps rules 1 to 7
+use mathlib.Core.Path.{_≡_}
+use mathlib.Core.List.{List}
+use Prim.Native.Nat.{ℕ, _+_, _≤_, _<_}
+use lib.ListN.{length}
+use Rattle.plane.specs.Folds.{sumTo}
+use Rattle.outline.specs.Region.{mostRings, lastEnd}
+use Rattle.outline.specs.Rules.{KeepsRules}
+use Rattle.endian.specs.Bytes.{u16At}
+use Rattle.card.specs.Layout.{cardParcels, cardRings, cardVertices, lastCardSlot, parcelsAt, ringsAt, verticesAt, lengthOf}
+use Rattle.card.specs.Reading.{parcelCount, ringCount, vertexCount, slotAt, countAt, endsAt, regionAt}
+
+pub record GoodCard (b : List ℕ) : Type 0 where
+  pub few-parcels : parcelCount b ≤ cardParcels
+  pub few-rings : ringCount b ≤ cardRings
+  pub few-vertices : vertexCount b ≤ cardVertices
+  pub parcels-offset : u16At b 6 ≡ parcelsAt
+  pub rings-offset : u16At b 8 ≡ ringsAt (parcelCount b)
+  pub vertices-offset : u16At b 10 ≡ verticesAt (parcelCount b) (ringCount b)
+  pub whole-length : length b ≡ lengthOf (parcelCount b) (ringCount b) (vertexCount b)
+  pub slots-rise : (k : ℕ) → k + 1 < parcelCount b → slotAt b k < slotAt b (k + 1)
+  pub slots-low : (k : ℕ) → k < parcelCount b → slotAt b k ≤ lastCardSlot
+  pub some-rings : (k : ℕ) → k < parcelCount b → 1 ≤ countAt b k
+  pub few-of-each : (k : ℕ) → k < parcelCount b → countAt b k ≤ mostRings
+  pub rings-add : sumTo (countAt b) (parcelCount b) ≡ ringCount b
+  pub vertices-add : sumTo (λ k. lastEnd (endsAt b k)) (parcelCount b) ≡ vertexCount b
+  pub parcels-keep : (k : ℕ) → k < parcelCount b → KeepsRules (regionAt b k)

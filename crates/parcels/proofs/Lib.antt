@@ -1,7 +1,0 @@
-pub mod Filling
-pub mod Sums
-pub mod Tests
-pub mod Bounds
-pub mod Good
-pub mod Numbers
-pub mod Only

@@ -1,6 +1,0 @@
-pub mod Layout
-pub mod Reading
-pub mod CardNumber
-pub mod Good
-pub mod Right
-pub mod Pairs

@@ -1,0 +1,58 @@
+-- Condition 3, cell by cell: what any run of calls leaves in the relations.
+--   standing-cell     the cell of two standing parcels is the relation of the first to the second
+--   standing-tile     so a tile is in it exactly when the document's rule finds the first parcel there
+--   self-cell         a parcel with itself holds B
+--   empty-cell        any other cell is 0
+--   opposite-ways     for two standing parcels the directions one way are the opposites of those the other way
+use mathlib.Core.Path.{_≡_, refl, _∙_, ap}
+use mathlib.Core.Logic.{_↔_, _⊎_, _≢_, ⊎-elim}
+use mathlib.Core.List.{List}
+use Prim.Native.Nat.{ℕ, _<_}
+use native.Mathlib.Omega.{arith}
+use lib.Dec.{eqb}
+use borrow.Author.Tests.{eq-eqb, ne-eqb}
+use Rattle.plane.specs.Points.{Lines}
+use Rattle.plane.specs.TileSet.{bit}
+use Rattle.outline.specs.Region.{Region, Parcel, nothing, outline}
+use Rattle.outline.specs.Rules.{KeepsRules}
+use Rattle.outline.proofs.Keeps.{keeps-fewer}
+use Rattle.relation.specs.Relation.{RegionBox, RegionHas, regionBox, relationOf}
+use Rattle.relation.proofs.Relation.{relation-tile}
+use Rattle.matrix.specs.Directions.{opposite}
+use Rattle.pair.specs.Answer.{pairOf}
+use Rattle.pair.proofs.Laws.{directions-turned}
+use Rattle.layout.specs.Sheet.{Sheet, slots}
+use Rattle.layout.specs.Layout.{selfCell, cellOf}
+use Rattle.layout.specs.Slots.{cellIn}
+use Rattle.layout.proofs.Standing.{layout-cell}
+use Rattle.runs.specs.Runs.{Call, afterRun, Stands, standing}
+use Rattle.runs.proofs.Runs.{standing-together, run-layout, standing-means}
+
+module _ (cs : List Call) (p q : ℕ) (hp : p < slots) (hq : q < slots) where
+  run-cell : cellIn ((afterRun cs) .relations) p q ≡ cellOf (standing cs p) (standing cs q) (eqb p q)
+  run-cell = ap (λ (s : Sheet). cellIn (s .relations) p q) (run-layout cs) ∙ layout-cell (standing cs) p q hp hq
+
+  pub empty-cell : (standing cs p ≡ nothing) ⊎ (standing cs q ≡ nothing) → cellIn ((afterRun cs) .relations) p q ≡ 0
+  empty-cell h = run-cell ∙ ⊎-elim (λ e. rw e refl) (λ e. rw e (no-second (standing cs p))) h
+    where
+      no-second : (r : Parcel) → cellOf r nothing (eqb p q) ≡ 0
+      no-second nothing = refl
+      no-second (outline R) = refl
+
+pub self-cell : (cs : List Call) (p : ℕ) → p < slots → (R : Region) → Stands cs p R → cellIn ((afterRun cs) .relations) p p ≡ selfCell
+self-cell cs p hp R s = run-cell cs p p hp hp ∙ rw (standing-means cs p R .1 s, eq-eqb p p refl) refl
+
+-- a standing parcel keeps the rules
+kept : (cs : List Call) (p : ℕ) → p < slots → (R : Region) → Stands cs p R → KeepsRules R
+kept cs p hp R s = rw (standing-means cs p R .1 s) at (standing-together cs .each p hp)
+
+module _ (cs : List Call) (p q : ℕ) (hp : p < slots) (hq : q < slots) (R : Region) (first : Stands cs p R) (Q : Region) (second : Stands cs q Q) where
+  module _ (other : p ≢ q) where
+    pub standing-cell : cellIn ((afterRun cs) .relations) p q ≡ relationOf (regionBox Q) R
+    standing-cell = run-cell cs p q hp hq ∙ rw (standing-means cs p R .1 first, standing-means cs q Q .1 second, ne-eqb p q other) refl
+
+    pub standing-tile : (M : Lines) → RegionBox Q M → (t : ℕ) → t < 9 → (bit (cellIn ((afterRun cs) .relations) p q) t ≡ 1) ↔ RegionHas M R t
+    standing-tile M is t h = rw standing-cell (relation-tile (keeps-fewer (omega arith) (kept cs p hp R first)) (keeps-fewer (omega arith) (kept cs q hq Q second)) M is t h)
+
+  pub opposite-ways : pairOf Q R .directions ≡ opposite (pairOf R Q .directions)
+  opposite-ways = directions-turned R Q (record { first-kept = kept cs p hp R first; second-kept = kept cs q hq Q second })

@@ -1,0 +1,6 @@
+pub mod Lengths
+pub mod Loading
+pub mod Loads
+mod Parts
+mod WholeCard
+pub mod Only

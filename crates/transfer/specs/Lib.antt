@@ -1,0 +1,3 @@
+pub mod Load
+pub mod Write
+pub mod Steps

@@ -1,0 +1,17 @@
+-- Document 01, "The card": loading is refused by 11, then by the card's own numbers, and otherwise replaces the whole sheet, damaged or not.
+--   loadNumber s b    what loading the card b into the sheet s answers;  load s b  the sheet at exit
+use mathlib.Core.List.{List}
+use Prim.Native.Nat.{ℕ}
+use lib.Dec.{eqb}
+use Rattle.plane.specs.Choice.{pick}
+use Rattle.outline.specs.Refusals.{numberIf, orElse, sheet-lists}
+use Rattle.layout.specs.Sheet.{Sheet, wrongLists}
+use Rattle.layout.specs.Layout.{layout}
+use Rattle.card.specs.Reading.{parcelIn}
+use Rattle.card.specs.CardNumber.{cardNumber}
+
+unfoldable pub loadNumber : Sheet → List ℕ → ℕ
+loadNumber s b = orElse (numberIf (wrongLists s) sheet-lists) (cardNumber b)
+
+unfoldable pub load : Sheet → List ℕ → Sheet
+load s b = pick (eqb (loadNumber s b) 0) (layout (parcelIn b)) s

@@ -1,0 +1,112 @@
+// A card into a sheet, and a sheet into a card.
+ghost use mathlib.Core.Path.{_≡_};
+ghost use mathlib.Core.Bool.{false};
+ghost use Prim.Native.Nat.{_<_};
+ghost use Rattle.layout.specs.Sheet.{sheetOf, wrongLists};
+ghost use Rattle.layout.specs.Layout.{layout};
+ghost use Rattle.sheet.specs.Changes.{put};
+ghost use Rattle.card.specs.Reading.{parcelCount, slotAt, regionAt, parcelIn};
+ghost use Rattle.card.specs.CardNumber.{cardNumber};
+ghost use Rattle.transfer.specs.Load.{loadNumber, load};
+ghost use Rattle.transfer.specs.Write.{written, write};
+use card::MOST_NUMBERS;
+use card::PARCELS_AT;
+use card::parcel_count;
+use card::read_ends;
+use card::read_numbers;
+use card::rules::card_number;
+use card::slot_at;
+use layout::lists::wrong_lists;
+use layout::refused::whole_number;
+use outline::MOST_RINGS;
+use outline::refusals::BUFFER_SHORT;
+use outline::refusals::SHEET_LISTS;
+use sheet::clear;
+use sheet::put;
+use writing::count_all;
+use writing::put_card;
+
+mod writing;
+
+// What writing a card answers: 0 and the card's length, or the number of the refusal and 0.
+pub struct Written {
+    pub number: u16,
+    pub length: usize,
+}
+
+// How many parcels, rings and vertices stand.
+pub struct Totals {
+    pub parcels: usize,
+    pub rings: usize,
+    pub vertices: usize,
+}
+
+// Parcel k of a good card into its slot.
+fn put_parcel(xs: &mut [i32], records: &mut [u16], relations: &mut [u16], card: &[u8], k: usize)
+    requires { ⌜ (cardNumber (now card) ≡ 0) × (k < parcelCount (now card)) ⌝ }
+    ensures { λ _. ⌜ sheetOf (now (xs .exit)) (now (records .exit)) (now (relations .exit)) ≡ put (sheetOf (now (xs .entry)) (now (records .entry)) (now (relations .entry))) (slotAt (now (card .entry)) k) (regionAt (now (card .entry)) k) ⌝ }
+{
+    let mut ends = [0u16; MOST_RINGS];
+    let rings = read_ends(card, k, &mut ends);
+    let mut numbers = [0i32; MOST_NUMBERS];
+    let n = read_numbers(card, k, &mut numbers);
+    let slot = slot_at(card, k);
+    put(
+        xs,
+        records,
+        relations,
+        slot,
+        &numbers[0..n],
+        &ends[0..rings],
+    );
+}
+
+// The parcels of a good card, and nothing else, onto the sheet.
+fn lay_out(xs: &mut [i32], records: &mut [u16], relations: &mut [u16], card: &[u8])
+    requires { ⌜ (wrongLists (sheetOf (now xs) (now records) (now relations)) ≡ false) × (cardNumber (now card) ≡ 0) ⌝ }
+    ensures { λ _. ⌜ sheetOf (now (xs .exit)) (now (records .exit)) (now (relations .exit)) ≡ layout (parcelIn (now (card .entry))) ⌝ }
+{
+    clear(xs, records, relations);
+    let parcels = parcel_count(card);
+    let mut k = 0;
+    while k < parcels {
+        put_parcel(xs, records, relations, card, k);
+        k += 1;
+    }
+}
+
+// Nothing is written before the whole card is checked.
+pub fn load(xs: &mut [i32], records: &mut [u16], relations: &mut [u16], card: &[u8]) -> u16
+    ensures { λ n. ⌜ n ≡ loadNumber (sheetOf (now (xs .entry)) (now (records .entry)) (now (relations .entry))) (now (card .entry)) ⌝ }
+    ensures { λ _. ⌜ sheetOf (now (xs .exit)) (now (records .exit)) (now (relations .exit)) ≡ load (sheetOf (now (xs .entry)) (now (records .entry)) (now (relations .entry))) (now (card .entry)) ⌝ }
+{
+    if wrong_lists(xs, records, relations) {
+        return SHEET_LISTS;
+    }
+    let n = card_number(card);
+    if n != 0 {
+        return n;
+    }
+    lay_out(xs, records, relations, card);
+    0
+}
+
+pub fn write(xs: &[i32], records: &[u16], relations: &[u16], buffer: &mut [u8]) -> Written
+    ensures { λ r. ⌜ r ≡ written (sheetOf (now (xs .entry)) (now (records .entry)) (now (relations .entry))) (now (buffer .entry)) ⌝ }
+    ensures { λ _. ⌜ now (buffer .exit) ≡ write (sheetOf (now (xs .entry)) (now (records .entry)) (now (relations .entry))) (now (buffer .entry)) ⌝ }
+{
+    let number = whole_number(xs, records, relations);
+    if number != 0 {
+        return Written { number, length: 0 };
+    }
+    let t = count_all(records);
+    let length = PARCELS_AT + 4 * t.parcels + 2 * t.rings + 8 * t.vertices;
+    if buffer.len() < length {
+        return Written {
+            number: BUFFER_SHORT,
+            length: 0,
+        };
+    }
+    put_card(buffer, xs, records, t);
+    Written { number: 0, length }
+}
