@@ -1,15 +1,16 @@
 -- Edges that share a point overlap in both axes, so edges that do not overlap need not be asked.
 --   shares-overlap              edges that share a point overlap in each axis
---   past-apart, before-apart    ranges laid out that lie apart, one way and the other
+--   apart                       edges whose ranges lie apart in an axis share no point
 --   x-within, y-within          a ring lies between the lines of its box
 --   near-candidates             words that have every edge that overlaps edge i in x, and in y, have every edge that it meets
 use mathlib.Core.Path.{_≡_, sym, _∙_, ap}
+use mathlib.Core.Logic.{⊎-elim}
 use mathlib.Core.Bool.{Bool, true, false, _&&_}
 use mathlib.Core.List.{List}
 use Prim.Native.Nat.{ℕ, zero, suc, _+_, _-_, _/_, _^_, _≤_, _<_, min, max}
 use native.Mathlib.Omega.{arith}
-use borrow.Author.Tests.{leb-true}
-use lib.Dec.{leb}
+use borrow.Author.Tests.{leb-true, ltb-true}
+use lib.Dec.{leb, ltb}
 use lib.Bits.{bitAnd}
 use lib.ListN.{getD}
 use lib.IntN.{ℤ}
@@ -18,7 +19,7 @@ use Rattle.plane.specs.declared.Box.{Box}
 use Rattle.plane.specs.Place.{placeOf}
 use Rattle.plane.specs.TileSet.{bit}
 use Rattle.plane.proofs.Folds.{least-le, greatest-ge}
-use Rattle.plane.proofs.Logic.{and-means, is-false}
+use Rattle.plane.proofs.Logic.{and-means, or-means, is-false}
 use Rattle.meet.specs.MeetTest.{overlap, ends-apart, shares}
 use Rattle.ring.specs.Edges.{corner, after, ringEdge}
 use Rattle.ring.specs.RingBox.{stretchBox}
@@ -26,7 +27,7 @@ use Rattle.bands.specs.Axis.{placeIn}
 use Rattle.bands.specs.Bands.{Within, Finds}
 use Rattle.bands.proofs.Bits.{and-both, bit-shift}
 use Rattle.simple.specs.Parts.{Candidates}
-use Rattle.simple.specs.Layout.{LaidOut}
+use Rattle.simple.specs.Layout.{LaidOut, rangesApart}
 use Rattle.simple.proofs.Parts.{pair-means}
 
 shares-near : (g h : Edge) → shares g h ≡ true → (overlap (g .ax) (g .bx) (h .ax) (h .bx) ≡ true) × (overlap (g .ay) (g .by) (h .ay) (h .by) ≡ true)
@@ -60,11 +61,14 @@ module _ (xs : List ℤ) (from n : ℕ) where
         let p = and-means (leb (min a b) (max c d)) (leb (min c d) (max a b)) .0 t in
         rw (l .low i hi, l .high i hi, l .low j hj, l .high j hj) (leb-true _ _ (p .0), leb-true _ _ (p .1))
 
-    pub past-apart : getD highs i 0 < getD lows j 0 → false ≡ shares (ringEdge xs from n i) (ringEdge xs from n j)
-    past-apart h = sym (is-false _ (λ t. let r = reach (shares-overlap axis i j few t) .1 in absurd (omega arith)))
-
-    pub before-apart : getD highs j 0 < getD lows i 0 → false ≡ shares (ringEdge xs from n i) (ringEdge xs from n j)
-    before-apart h = sym (is-false _ (λ t. let r = reach (shares-overlap axis i j few t) .0 in absurd (omega arith)))
+    pub apart : rangesApart lows highs i j ≡ true → false ≡ shares (ringEdge xs from n i) (ringEdge xs from n j)
+    unfolding rangesApart
+    apart h =
+        sym (is-false _ (λ t. let r = reach (shares-overlap axis i j few t) in
+        ⊎-elim (λ p. out (ltb-true _ _ p) (r .1)) (λ p. out (ltb-true _ _ p) (r .0)) (or-means (ltb (getD highs i 0) (getD lows j 0)) (ltb (getD highs j 0) (getD lows i 0)) .0 h)))
+      where
+        out : {a b : ℕ} → a < b → b ≤ a → ⊥
+        out p q = omega arith
 
   pub near-candidates : (i x y : ℕ) → Finds xs from n 0 i x → Finds xs from n 1 i y → Candidates xs from n i (i + 2) (bitAnd x y / 2 ^ (i + 2))
   near-candidates i x y fx fy =

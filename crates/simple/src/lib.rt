@@ -13,7 +13,7 @@ ghost use Rattle.bands.specs.Bands.{bands, mostEdges, Laid};
 ghost use Rattle.simple.specs.Faults.{faultsOf};
 ghost use Rattle.simple.specs.Signs.{productOf, sideOf, together, inLine, turnsBack};
 ghost use Rattle.simple.specs.Parts.{edgeBefore, pastStrangers, meetPair, meetsWith, meets, scanOf, Candidates};
-ghost use Rattle.simple.specs.Layout.{small, LaidOut};
+ghost use Rattle.simple.specs.Layout.{small, LaidOut, rangesApart};
 use bands::BANDS;
 use bands::MOST_EDGES;
 use bands::found_near;
@@ -219,7 +219,18 @@ fn lay_out(outline: &[i32], from: usize, n: usize, axis: usize, lows: &mut [u32]
     }
 }
 
-// Edges i and j: four comparisons answer for most pairs.
+// Do the ranges of edges i and j lie apart?
+fn ranges_apart(lows: &[u32], highs: &[u32], i: usize, j: usize) -> bool
+    requires { ⌜ (i < length (now lows)) × (i < length (now highs)) × (j < length (now lows)) × (j < length (now highs)) ⌝ }
+    ensures { λ r. ⌜ r ≡ rangesApart (now (lows .entry)) (now (highs .entry)) i j ⌝ }
+{
+    if highs[i] < lows[j] {
+        return true;
+    }
+    highs[j] < lows[i]
+}
+
+// Edges i and j: their ranges answer for most pairs.
 fn near_edges_share(
     outline: &[i32],
     from: usize,
@@ -236,22 +247,16 @@ fn near_edges_share(
     requires { ⌜ (n ≤ length (now wests)) × (n ≤ length (now easts)) × (n ≤ length (now souths)) × (n ≤ length (now norths)) ⌝ }
     ensures { λ r. ⌜ r ≡ shares (ringEdge (now (outline .entry)) from n i) (ringEdge (now (outline .entry)) from n j) ⌝ }
 {
-    if easts[i] < wests[j] {
+    if ranges_apart(wests, easts, i, j) {
         return false;
     }
-    if easts[j] < wests[i] {
-        return false;
-    }
-    if norths[i] < souths[j] {
-        return false;
-    }
-    if norths[j] < souths[i] {
+    if ranges_apart(souths, norths, i, j) {
         return false;
     }
     edges_share(outline, from, n, i, j)
 }
 
-// Past the last edge that is no neighbour of edge i: the last edge of the ring is the first one's.
+// Past the last stranger of edge i. The ring's last edge is a neighbour of its first.
 fn past_strangers(n: usize, i: usize) -> usize
     requires { ⌜ 0 < n ⌝ }
     ensures { λ r. ⌜ r ≡ pastStrangers n i ⌝ }

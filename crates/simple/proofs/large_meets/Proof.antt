@@ -64,11 +64,22 @@ slice-aggregate-banded-meets-5 c = search needs
 slice-aggregate-banded-meets-6 : tie.Need-slice-aggregate-banded-meets-6
 slice-aggregate-banded-meets-6 c = search needs
 
+-- the two calls that lay the bands
+module _ (c : tie.After-north3) where
+  abbrev second : tie.After-lay-bands2
+  second = c .before .before .before .before .before .before .before .before .before
+
+  abbrev first : tie.After-lay-bands
+  first = second .before .before .before .before .before .before .before
+
+  abbrev start : tie.Start
+  start = first .before .before .before .before .before
+
 banded-meets-requires : tie.Need-banded-meets-requires
 banded-meets-requires c κs =
-    let p = c .before .before .before .before .before .before .before .before .before .before .before .before .before .before .before .before .before .before .before .before .before .pre in
-    let x = c .before .before .before .before .before .before .before .before .before .before .before .before .before .before .before .before .lay-bands in
-    let y = c .before .before .before .before .before .before .before .before .before .lay-bands2 in (
+    let x = first c .lay-bands in
+    let y = second c .lay-bands2 in
+    let p = start c .pre in (
       (p .0, p .2),
       (
         (x .ensures, y .ensures),

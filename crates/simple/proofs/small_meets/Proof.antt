@@ -33,19 +33,30 @@ slice-aggregate-laid-out-meets-3 c = search needs
 slice-aggregate-laid-out-meets-4 : tie.Need-slice-aggregate-laid-out-meets-4
 slice-aggregate-laid-out-meets-4 c = search needs
 
+-- the two calls that lay the ranges out
+module _ (c : tie.After-norths3) where
+  abbrev second : tie.After-lay-out2
+  second = c .before .before .before .before .before .before
+
+  abbrev first : tie.After-lay-out
+  first = second .before .before .before .before .before
+
+  abbrev start : tie.Start
+  start = first .before .before .before
+
 laid-out-meets-requires : tie.Need-laid-out-meets-requires
 laid-out-meets-requires c κs =
-    let p = c .before .before .before .before .before .before .before .before .before .before .before .before .before .before .pre in
-    let x = c .before .before .before .before .before .before .before .before .before .before .before .lay-out in
-    let y = c .before .before .before .before .before .before .lay-out2 in (
-      p .0,
+    let x = first c .lay-out in
+    let y = second c .lay-out2 in
+    let few = start c .pre .1 in (
+      start c .pre .0,
       (
         (x .ensures, y .ensures),
         (
-          omega (arith, p .1, x .kept .1 .1 .1 .1 .0),
-          omega (arith, p .1, x .kept .1 .1 .1 .1 .1 .0),
-          omega (arith, p .1, y .kept .1 .1 .1 .1 .0),
-          omega (arith, p .1, y .kept .1 .1 .1 .1 .1 .0),
+          omega (arith, x .kept .1 .1 .1 .1 .0),
+          omega (arith, x .kept .1 .1 .1 .1 .1 .0),
+          omega (arith, y .kept .1 .1 .1 .1 .0),
+          omega (arith, y .kept .1 .1 .1 .1 .1 .0),
         ),
       ),
     )
