@@ -1,5 +1,6 @@
 -- The box of an accepted region has width and height: its first ring is clockwise, so that ring's own box has (ring/proofs/Positive), and the
 -- region's box reaches at least as far on each side.
+--   first-clockwise        the first ring is clockwise, by the test in places
 --   wide, high             in places: west comes before east, and south before north
 --   box-wide, box-high     the same of the box's lines over coordinates
 use mathlib.Core.Path.{_≡_, refl}
@@ -48,7 +49,7 @@ module _ {R : Region} (kept : KeepsRules R) where
   within = omega (arith, ring-in-last (R .ends) (sizes .grown) 0 (sizes .some))
 
   -- rule 7 of the first ring
-  first-clockwise : clockwise (R .coordinates) 0 size ≡ true
+  pub first-clockwise : clockwise (R .coordinates) 0 size ≡ true
   first-clockwise = go (clockwise (R .coordinates) 0 size) refl
     where
       go : (t : Bool) → clockwise (R .coordinates) 0 size ≡ t → t ≡ true
