@@ -3,4 +3,5 @@ pub mod Refusals
 pub mod Cells
 pub mod Directions
 pub mod Compass
+pub mod Somewhere
 pub mod Only

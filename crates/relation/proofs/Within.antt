@@ -3,23 +3,23 @@
 -- corner, and such an edge, moved to its right, still lies between the sides.
 --   Shares c lo hi w e    range c of the lines lo and hi has room in common with what lies between w and e
 --   tile-within           some tile of the relation shares room with the region's box, in its column and in its row
-use mathlib.Core.Path.{_≡_, refl, sym, _∙_, ap}
+use mathlib.Core.Path.{_≡_, refl, ap}
 use mathlib.Core.Logic.{inl}
 use mathlib.Core.Bool.{Bool, true, false}
 use mathlib.Core.List.{List}
 use Prim.Native.Nat.{ℕ, zero, suc, _+_, _-_, _*_, _≤_, _<_}
 use native.Mathlib.Omega.{arith}
-use native.Mathlib.Decide.{decLt, ℕ-discrete}
+use native.Mathlib.Decide.{decLt}
 use native.Mathlib.Nat.{mul-le-mul-left, zero-add}
 use lib.Dec.{ltb, eqb}
 use lib.ListN.{length}
 use lib.IntN.{ℤ}
-use borrow.Author.Tests.{ltb-true, ltb-false, eqb-true, eqb-false}
+use borrow.Author.Tests.{ltb-true, eqb-true}
 use Rattle.plane.specs.Choice.{pick}
 use Rattle.plane.specs.Place.{placeOf}
-use Rattle.plane.specs.Points.{Point, vertex}
+use Rattle.plane.specs.Points.{vertex}
 use Rattle.plane.specs.Placed.{Upright}
-use Rattle.plane.specs.Folds.{sumTo, leastTo, greatestTo}
+use Rattle.plane.specs.Folds.{sumTo}
 use Rattle.plane.specs.TileSet.{bit}
 use Rattle.plane.specs.Tiles.{columnOf, rowOf}
 use Rattle.plane.specs.declared.Box.{Box}
@@ -28,7 +28,7 @@ use Rattle.plane.proofs.Logic.{or-means}
 use Rattle.plane.proofs.Folds.{any-means, least-le, greatest-ge}
 use Rattle.plane.proofs.TileSet.{set-means}
 use Rattle.edge.specs.Drawn.{has}
-use Rattle.edge.proofs.Weights.{InCol, Meets, EqualEnds}
+use Rattle.edge.proofs.Weights.{InCol, EqualEnds}
 use Rattle.edge.proofs.MovedEdge.{moved, doubledBox, movedEdge}
 use Rattle.edge.proofs.WalkPlaces.{has-meets}
 use Rattle.edge.proofs.Drawn.{some-tile}
