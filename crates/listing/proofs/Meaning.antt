@@ -1,3 +1,7 @@
+-- What the list says of any card:
+--   list-good            a good card gives the count of its parcels, and then the lines (specs/Listing)
+--   list-refused         any other gives the one line with its number, which is 2 to 7, 14, 15 or 16
+--   decimal-starts       a number is written with some digit
 -- What a line of the list says. The card is good, and j and k are two different of its entries; the line is that of parcel j as seen from parcel k.
 --   answered             both parcels keep all rules: their pair answer has no refusal
 --   tiles, directions    the numbers of the tiles and of the directions that the line names
@@ -6,13 +10,18 @@
 --   directions-mean      direction t is named exactly when a cell that holds the one lies there from a cell that holds the other
 --   tiles-rise, directions-rise     both in rising order, so none twice
 --   pieces-mean          the last number counts the pieces of parcel j against that box;  pieces-least  it is at least 3
---   tiles-some           the word of the tiles is not empty
-use mathlib.Core.Path.{_≡_, sym, _∙_, ap}
+--   tiles-some, directions-some     the words of the tiles and of the directions are not empty
+--   fields-start         so no field of the line is
+use mathlib.Core.Path.{_≡_, refl, sym, _∙_, ap}
 use mathlib.Core.Logic.{_↔_, _≢_}
+use mathlib.Core.Bool.{Bool, true, false}
 use mathlib.Core.List.{List, [], _∷_, _++_, map}
-use Prim.Native.Nat.{ℕ, _≤_, _<_}
+use Prim.Native.Nat.{ℕ, suc, _/_, _%_, _≤_, _<_}
 use native.Mathlib.Omega.{arith}
+use lib.Dec.{ltb}
 use lib.ListN.{length, getD}
+use borrow.Author.Tests.{eq-eqb}
+use Rattle.plane.specs.Choice.{pick}
 use Rattle.plane.specs.Points.{Lines}
 use Rattle.plane.specs.TileSet.{bit}
 use Rattle.plane.proofs.Logic.{iff-join}
@@ -26,17 +35,51 @@ use Rattle.pair.specs.Answer.{given, pairOf}
 use Rattle.pair.proofs.Laws.{Answered, fields-are, some-tile, tile-means, pieces-between, relation-below}
 use Rattle.pair.proofs.Laws as pair
 use Rattle.pair.proofs.Compass.{Lies, direction-means}
-use Rattle.card.specs.Reading.{parcelCount, slotAt, regionAt}
-use Rattle.card.specs.Good.{GoodCard}
-use Rattle.card.specs.Pairs.{pairIn}
+use Rattle.pair.proofs.Somewhere.{direction-some}
+use Rattle.endian.specs.Bytes.{joined}
+use Rattle.parcels.specs.Reading.{parcelCount, slotAt, regionAt}
+use Rattle.parcels.specs.CardNumber.{cardNumber}
+use Rattle.parcels.specs.Good.{GoodCard}
+use Rattle.parcels.specs.Pairs.{pairIn}
+use Rattle.parcels.proofs.Good.{good-means}
+use Rattle.parcels.proofs.Numbers.{CardsOwn, not-good-means}
+use Rattle.io.specs.Digits.{glyph, digits}
 use Rattle.listing.specs.Names.{nameOf, namesOf, B, O}
-use Rattle.listing.specs.Listing.{space, lineFeed, decimal, pairLine, lineOf}
+use Rattle.listing.specs.Listing.{space, lineFeed, decimal, parcelsWord, refusedWord, pairLine, lineOf, listing}
 use Rattle.listing.proofs.NameWords.{Starts, between, setBits, set-bits-mean, set-bits-rise, names-are, names-start, some-bit}
-use Rattle.listing.proofs.PairLines.{line-some}
+use Rattle.listing.proofs.PairLines.{line-some, refused}
 
 -- a bit that is below 9 and set, by what a set bit says
 nine-mean : (s : ℕ) (Says : ℕ → Type 0) → ((t : ℕ) → t < 9 → (bit s t ≡ 1) ↔ Says t) → (t : ℕ) → Among t (setBits s 9) ↔ ((t < 9) × Says t)
 nine-mean s Says says t = iff-join (set-bits-mean s 9 t) (λ p. (p .0, says t (p .0) .0 (p .1)), λ p. (p .0, says t (p .0) .1 (p .1)))
+
+-- ---- the whole list
+module _ (card : List ℕ) where
+  pub list-good : GoodCard card
+      → listing card ≡ parcelsWord ++ (decimal (parcelCount card) ++ (lineFeed ∷ joined (λ j. joined (lineOf card j) (parcelCount card)) (parcelCount card)))
+  unfolding listing
+  list-good good = rw (eq-eqb (cardNumber card) 0 (good-means card .1 good)) refl
+
+  pub list-refused : (GoodCard card → ⊥) → (listing card ≡ refusedWord ++ (decimal (cardNumber card) ++ (lineFeed ∷ []))) × CardsOwn (cardNumber card)
+  list-refused bad = (refused card (λ z. bad (good-means card .0 z)), not-good-means card .1 bad)
+
+-- ---- a number is not empty
+pub decimal-starts : (n : ℕ) → Starts (decimal n)
+decimal-starts n = go (ltb n 10) (ltb n 100) (ltb n 1000) (ltb n 10000)
+  where
+    last : (l : List ℕ) (x : ℕ) → Starts (l ++ (x ∷ []))
+    last [] x = (x, [], refl)
+    last (y ∷ l) x = (y, l ++ (x ∷ []), refl)
+
+    some-digits : (k : ℕ) → Starts (digits 10 (suc k) n)
+    some-digits k = last (digits 10 k (n / 10)) (glyph (n % 10))
+
+    go : (x y z w : Bool) → Starts (digits 10 (pick x 1 (pick y 2 (pick z 3 (pick w 4 5)))) n)
+    go true y z w = some-digits 0
+    go false true z w = some-digits 1
+    go false false true w = some-digits 2
+    go false false false true = some-digits 3
+    go false false false false = some-digits 4
 
 module _ (card : List ℕ) (good : GoodCard card) (j k : ℕ) (hj : j < parcelCount card) (hk : k < parcelCount card) (other : j ≢ k) where
   abbrev first : Region
@@ -96,3 +139,12 @@ module _ (card : List ℕ) (good : GoodCard card) (j k : ℕ) (hj : j < parcelCo
       let is : answer .first ≡ _ = ap (λ (a : Answer). a .first) (fields-are first second answered) in
       let b = some-bit (answer .first) (relation-below first second answered) (λ z. some-tile first second answered .0 (sym is ∙ z)) in
       rw (← names-are B (answer .first)) (names-start B (answer .first) (b .0) (b .1) (b .2))
+
+  pub directions-some : Starts (between (map (nameOf O) directions))
+  directions-some =
+      let (t, h, e) = direction-some first second answered in
+      rw (← names-are O (answer .directions)) (names-start O (answer .directions) t h e)
+
+  pub fields-start : Starts (decimal (slotAt card j)) × Starts (decimal (slotAt card k)) × Starts (between (map (nameOf B) tiles))
+      × Starts (between (map (nameOf O) directions)) × Starts (decimal (answer .«first_pieces»))
+  fields-start = (decimal-starts (slotAt card j), decimal-starts (slotAt card k), tiles-some, directions-some, decimal-starts (answer .«first_pieces»))

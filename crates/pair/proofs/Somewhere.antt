@@ -46,18 +46,18 @@ module _ (w e lo hi : ℕ) (some : w < e) (order : lo ≤ hi) where
       let (i, h, ei) = lines-means w e lo hi e .1 (inr (inl refl)) in
       let rise = lines-rise w e lo hi in
       let later : j < i =
-          elim (decLt j i) [
-            | yes b ↦ b
-            | no n ↦ elim (ℕ-discrete i j) [
-              | yes q ↦ absurd (omega (arith, l, ei, ej, ap (λ (z : ℕ). getD lines z 0) q))
-              | no q ↦ absurd (omega (arith, l, ei, ej, rise i j (omega arith) hj))
-            ]
-          ] in
+      elim (decLt j i) [
+        | yes b ↦ b
+        | no n ↦ elim (ℕ-discrete i j) [
+          | yes q ↦ absurd (omega (arith, l, ei, ej, ap (λ (z : ℕ). getD lines z 0) q))
+          | no q ↦ absurd (omega (arith, l, ei, ej, rise i j (omega arith) hj))
+        ]
+      ] in
       let next : getD lines (j + 1) 0 ≤ e =
-          elim (ℕ-discrete (j + 1) i) [
-            | yes q ↦ omega (arith, ei, ap (λ (z : ℕ). getD lines z 0) q)
-            | no q ↦ omega (arith, ei, rise (j + 1) i (omega arith) h)
-          ] in
+      elim (ℕ-discrete (j + 1) i) [
+        | yes q ↦ omega (arith, ei, ap (λ (z : ℕ). getD lines z 0) q)
+        | no q ↦ omega (arith, ei, rise (j + 1) i (omega arith) h)
+      ] in
       (j, omega arith, ej, next)
 
   record StripIn (c : ℕ) : Type 0 where
@@ -100,14 +100,25 @@ module _ (a b : Box) (broad : a .west < a .east) (tall : a .south < a .north) (u
       let low : rowCount a b - 1 - i ≡ y .j = omega (arith, y .there) in
       let high : rowCount a b - i ≡ y .j + 1 = omega (arith, y .there) in
       let tile : 3 * (2 - rangeOf (b .south) (b .north) (getD (upLines a b) (y .j) 0)) + rangeOf (b .west) (b .east) (getD (acrossLines a b) (x .j) 0) ≡ t =
-          omega (arith, x .range, y .range, h) in (
+      omega (arith, x .range, y .range, h) in (
         i,
         x .j,
         omega (arith, y .there),
         omega (arith, x .there),
         rw (low, high)
-        (and-means _ _ .1 (le-leb _ _ (x .from-in), and-means _ _ .1 (le-leb _ _ (x .to-in), and-means _ _ .1 (le-leb _ _ (y .from-in), and-means _ _ .1 (le-leb _ _ (y .to-in),
-        eq-eqb _ 1 (ap (bit r) tile ∙ there)))))),
+            (and-means _ _ .1 (
+              le-leb _ _ (x .from-in),
+              and-means _ _ .1 (
+                le-leb _ _ (x .to-in),
+                and-means _ _ .1 (
+                  le-leb _ _ (y .from-in),
+                  and-means _ _ .1 (
+                    le-leb _ _ (y .to-in),
+                    eq-eqb _ 1 (ap (bit r) tile ∙ there),
+                  ),
+                ),
+              ),
+            )),
       )
 
   first-somewhere : (s t : ℕ) → t < 9 → bit r t ≡ 1 → Shares (columnOf t) (b .west) (b .east) (a .west) (a .east)
@@ -178,5 +189,5 @@ direction-some first second x =
     let (i', j', hi', hj', g) = first-somewhere b a (wide (x .second-kept)) (high (x .second-kept)) (region-upright first) s r u hu eu cu ru in
     let h = first-exchanged (cellValue a b r s i' j') (rw (matrix-exchanged a b r s i' j') at g) in
     let (k, hk, d) =
-        some-direction (matrixOf a b r s) i j i' j' (hi, hj) (hi', hj') (rw (value-at a b r s i j hi hj) f) (rw (value-at a b r s i' j' hi' hj') h) in
+    some-direction (matrixOf a b r s) i j i' j' (hi, hj) (hi', hj') (rw (value-at a b r s i j hi hj) f) (rw (value-at a b r s i' j' hi' hj') h) in
     (k, hk, ap (λ (w : Answer). bit (w .directions) k) (fields-are first second x) ∙ directions-mean (matrixOf a b r s) k hk .1 d)

@@ -147,11 +147,11 @@ module _ (a b : Box) (g : Edge) (up : Upright b) (west : (a .west ≤ g .ax) × 
       let (t, h, e) = some-tile b g up not-equal in
       let m = has-meets b g up not-equal t h .0 e in
       let x =
-          moved-between (g .ax) (g .bx) (g .ay) (g .by) (a .west) (a .east) (west .0) (west .1) (east .0) (east .1)
-          (λ q l. adds-not-up (g .ax) (g .ay) (g .by) (a .west) (west .0) l (upright-adds q)) (λ q l. adds-inside (g .ax) (g .ay) (g .by) (a .west) (west .0) (upright-adds q)) in
+      moved-between (g .ax) (g .bx) (g .ay) (g .by) (a .west) (a .east) (west .0) (west .1) (east .0) (east .1)
+      (λ q l. adds-not-up (g .ax) (g .ay) (g .by) (a .west) (west .0) l (upright-adds q)) (λ q l. adds-inside (g .ax) (g .ay) (g .by) (a .west) (west .0) (upright-adds q)) in
       let y =
-          moved-between (g .ay) (g .by) (g .bx) (g .ax) (a .south) (a .north) (south .0) (south .1) (north .0) (north .1)
-          (λ q l. adds-not-up (g .ay) (g .bx) (g .ax) (a .south) (south .0) l (level-adds q)) (λ q l. adds-inside (g .ay) (g .bx) (g .ax) (a .south) (south .0) (level-adds q)) in (
+      moved-between (g .ay) (g .by) (g .bx) (g .ax) (a .south) (a .north) (south .0) (south .1) (north .0) (north .1)
+      (λ q l. adds-not-up (g .ay) (g .bx) (g .ax) (a .south) (south .0) l (level-adds q)) (λ q l. adds-inside (g .ay) (g .bx) (g .ax) (a .south) (south .0) (level-adds q)) in (
         t,
         h,
         e,
@@ -240,9 +240,9 @@ module _ {R : Region} (kept : KeepsRules R) where
       let A = in-box (0 + k) (rw (zero-add k) l) in
       let B = in-box (nextOf 0 size k) (rw (zero-add size) at (next-lt 0 size k l)) in
       let (t, h, e, column, row) =
-          edge-within box b (ringEdge (R .coordinates) 0 size k) up (A .0 .0, B .0 .0) (A .0 .1, B .0 .1) (A .1 .0, B .1 .0) (A .1 .1, B .1 .1) adds in
+      edge-within box b (ringEdge (R .coordinates) 0 size k) up (A .0 .0, B .0 .0) (A .0 .1, B .0 .1) (A .1 .0, B .1 .0) (A .1 .1, B .1 .1) adds in
       let on-edges : edgesHave b (R .coordinates) 0 size t ≡ true = any-means (λ i. has b (ringEdge (R .coordinates) 0 size i) t) size .1 (k, l, e) in
       let on-ring : ringHas b (R .coordinates) 0 size t ≡ true = or-means (edgesHave b (R .coordinates) 0 size t) _ .1 (inl on-edges) in
       let there : regionHas b R t ≡ true =
-          any-means (λ q. ringHas b (R .coordinates) (startOf (R .ends) q) (sizeOf (R .ends) q) t) (length (R .ends)) .1 (0, sizes .some, on-ring) in
+      any-means (λ q. ringHas b (R .coordinates) (startOf (R .ends) q) (sizeOf (R .ends) q) t) (length (R .ends)) .1 (0, sizes .some, on-ring) in
       (t, h, set-means (regionHas b R) 9 t h .1 there, column, row)
