@@ -2,6 +2,7 @@ pub mod Putting
 pub mod Decimals
 pub mod NameSteps
 pub mod NameWords
+pub mod NameFields
 pub mod PairLines
 pub mod Laws
 pub mod Meaning

@@ -8,6 +8,7 @@
 --   line-is              the line: both slots; the names of the tiles and those of the directions, a colon between two; the pieces; one line feed
 --   tiles-mean           tile t is named exactly when the rule finds parcel j's region in tile t of the box of parcel k's
 --   directions-mean      direction t is named exactly when a cell that holds the one lies there from a cell that holds the other
+--   tile-printed, direction-printed     so the name of tile t, of direction t, stands between the colons of its word exactly then
 --   tiles-rise, directions-rise     both in rising order, so none twice
 --   pieces-mean          the last number counts the pieces of parcel j against that box;  pieces-least  it is at least 3
 --   tiles-some, directions-some     the words of the tiles and of the directions are not empty
@@ -47,6 +48,7 @@ use Rattle.io.specs.Digits.{glyph, digits}
 use Rattle.listing.specs.Names.{nameOf, namesOf, B, O}
 use Rattle.listing.specs.Listing.{space, lineFeed, decimal, parcelsWord, refusedWord, pairLine, lineOf, listing}
 use Rattle.listing.proofs.NameWords.{Starts, between, setBits, set-bits-mean, set-bits-rise, names-are, names-start, some-bit}
+use Rattle.listing.proofs.NameFields.{StandsIn, tile-named, direction-named}
 use Rattle.listing.proofs.PairLines.{line-some, refused}
 
 -- a bit that is below 9 and set, by what a set bit says
@@ -114,6 +116,9 @@ module _ (card : List ℕ) (good : GoodCard card) (j k : ℕ) (hj : j < parcelCo
   pub tiles-mean : (M : Lines) → RegionBox second M → (t : ℕ) → Among t tiles ↔ ((t < 9) × RegionHas M first t)
   tiles-mean M is = nine-mean (answer .first) (RegionHas M first) (tile-means first second answered M is)
 
+  pub tile-printed : (M : Lines) → RegionBox second M → (t : ℕ) → t < 9 → StandsIn (nameOf B t) (between (map (nameOf B) tiles)) ↔ RegionHas M first t
+  tile-printed M is t h = rw (← names-are B (answer .first)) (iff-join (tile-named (answer .first) t h) (tile-means first second answered M is t h))
+
   pub tiles-rise : (i i' : ℕ) → i < i' → i' < length tiles → getD tiles i 0 < getD tiles i' 0
   tiles-rise = set-bits-rise (answer .first) 9
 
@@ -121,6 +126,11 @@ module _ (card : List ℕ) (good : GoodCard card) (j k : ℕ) (hj : j < parcelCo
       → Among t directions ↔ ((t < 9) × Lies first second answered L M one two t)
   directions-mean L M one two =
       nine-mean (answer .directions) (Lies first second answered L M one two) (direction-means first second answered L M one two)
+
+  pub direction-printed : (L M : Lines) (one : RegionBox first L) (two : RegionBox second M) (t : ℕ) → t < 9
+      → StandsIn (nameOf O t) (between (map (nameOf O) directions)) ↔ Lies first second answered L M one two t
+  direction-printed L M one two t h =
+      rw (← names-are O (answer .directions)) (iff-join (direction-named (answer .directions) t h) (direction-means first second answered L M one two t h))
 
   pub directions-rise : (i i' : ℕ) → i < i' → i' < length directions → getD directions i 0 < getD directions i' 0
   directions-rise = set-bits-rise (answer .directions) 9

@@ -4,7 +4,8 @@
 --   setBits s k        the bits below k that are set in s, in rising order
 --   set-bits-mean      bit t is among them exactly when it is below k and set;  set-bits-rise  they do rise
 --   names-are          the word of a set: the names of its set bits in rising order, with a colon between two
---   names-start        it is not empty where one of the nine bits is set;  some-bit  as it is in a number below 512 that is not 0
+--   name-starts        no name is empty
+--   names-start        the word is not empty where one of the nine bits is set;  some-bit  as it is in a number below 512 that is not 0
 use mathlib.Core.Path.{_≡_, refl, sym, _∙_, ap}
 use mathlib.Core.Logic.{_↔_, _⊎_, _≢_, inl, inr, ⊎-elim}
 use mathlib.Core.Bool.{Bool, true, false}
@@ -124,7 +125,7 @@ module _ (s : ℕ) where
           ]
 
 -- ---- the word of a set
-name-starts : (middle t : ℕ) → t < 9 → Starts (nameOf middle t)
+pub name-starts : (middle t : ℕ) → t < 9 → Starts (nameOf middle t)
 name-starts middle zero h = (N, W ∷ [], refl)
 name-starts middle (suc zero) h = (N, [], refl)
 name-starts middle (suc (suc zero)) h = (N, E ∷ [], refl)
