@@ -1,6 +1,7 @@
 -- What the list says of any card:
 --   list-good            a good card gives the count of its parcels, and then the lines (specs/Listing)
 --   list-refused         any other gives the one line with its number, which is 2 to 7, 14, 15 or 16
+--   list-left            from the contract of `list`: the first r bytes of its buffer at exit are the list, where r is its answer
 --   decimal-starts       a number is written with some digit
 -- What a line of the list says. The card is good, and j and k are two different of its entries; the line is that of parcel j as seen from parcel k.
 --   answered             both parcels keep all rules: their pair answer has no refusal
@@ -20,7 +21,8 @@ use mathlib.Core.List.{List, [], _∷_, _++_, map}
 use Prim.Native.Nat.{ℕ, suc, _/_, _%_, _≤_, _<_}
 use native.Mathlib.Omega.{arith}
 use lib.Dec.{ltb}
-use lib.ListN.{length, getD}
+use lib.ListN.{length, getD, take, drop}
+use lib.Seq.{take-append-seam}
 use borrow.Author.Tests.{eq-eqb}
 use Rattle.plane.specs.Choice.{pick}
 use Rattle.plane.specs.Points.{Lines}
@@ -50,6 +52,7 @@ use Rattle.listing.specs.Listing.{space, lineFeed, decimal, parcelsWord,
 use Rattle.listing.proofs.NameWords.{Starts, between, setBits, set-bits-mean, set-bits-rise, names-are, names-start, some-bit}
 use Rattle.listing.proofs.NameFields.{StandsIn, tile-named, direction-named}
 use Rattle.listing.proofs.PairLines.{line-some, refused}
+use Rattle.listing.proofs.list.Reads as list-reads
 
 -- a bit that is below 9 and set, by what a set bit says
 nine-mean : (s : ℕ) (Says : ℕ → Type 0) → ((t : ℕ) → t < 9 → (bit s t ≡ 1) ↔ Says t) → (t : ℕ) → Among t (setBits s 9) ↔ ((t < 9) × Says t)
@@ -64,6 +67,9 @@ module _ (card : List ℕ) where
 
   pub list-refused : (GoodCard card → ⊥) → (listing card ≡ refusedWord ++ (decimal (cardNumber card) ++ (lineFeed ∷ []))) × CardsOwn (cardNumber card)
   list-refused bad = (refused card (λ z. bad (good-means card .0 z)), not-good-means card .1 bad)
+
+pub list-left : (κs : _) (a : _) (r : ℕ) (s : _) → list-reads.Post κs a r s → take r (s .1 .0 .now) ≡ listing (a .0 .now)
+list-left κs a r s post = let l = listing (a .0 .now) in (λ i. take (post .0 i) (post .1 i)) ∙ take-append-seam l (drop (length l) (a .1 .0 .now))
 
 -- ---- a number is not empty
 pub decimal-starts : (n : ℕ) → Starts (decimal n)
