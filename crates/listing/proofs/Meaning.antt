@@ -40,12 +40,12 @@ use Rattle.pair.proofs.Laws as pair
 use Rattle.pair.proofs.Compass.{Lies, direction-means}
 use Rattle.pair.proofs.Somewhere.{direction-some}
 use Rattle.endian.specs.Bytes.{joined}
-use Rattle.parcels.specs.Reading.{parcelCount, slotAt, regionAt}
-use Rattle.parcels.specs.CardNumber.{cardNumber}
-use Rattle.parcels.specs.Good.{GoodCard}
-use Rattle.parcels.specs.Pairs.{pairIn}
-use Rattle.parcels.proofs.Good.{good-means}
-use Rattle.parcels.proofs.Numbers.{CardsOwn, not-good-means}
+use Rattle.card.specs.Reading.{parcelCount, slotAt, regionAt}
+use Rattle.card.specs.CardNumber.{cardNumber}
+use Rattle.card.specs.Good.{GoodCard}
+use Rattle.card.specs.Pairs.{pairIn}
+use Rattle.card.proofs.Good.{good-means}
+use Rattle.card.proofs.Numbers.{CardsOwn, not-good-means}
 use Rattle.io.specs.Digits.{glyph, digits}
 use Rattle.listing.specs.Names.{nameOf, namesOf, B, O}
 use Rattle.listing.specs.Listing.{space, lineFeed, decimal, parcelsWord, refusedWord, pairLine, lineOf, listing}
