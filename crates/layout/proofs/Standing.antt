@@ -28,7 +28,7 @@ use Rattle.layout.specs.Damage.{Undamaged}
 use Rattle.layout.specs.Changes.{withParcel}
 use Rattle.layout.proofs.Blocks.{block-read}
 use Rattle.layout.proofs.Slots.{few-rings, few-vertices, occupied-in, Lies, rings-read, parcel-read}
-use Rattle.layout.proofs.Undamaged.{slot-lists}
+use Rattle.layout.proofs.Undamaged.{stand-undamaged, slot-lists}
 
 -- ---- what stands together
 keeps-less : {m n : ℕ} → m ≤ n → (p : Parcel) → ParcelKeeps n p → ParcelKeeps m p
@@ -106,10 +106,8 @@ module _ (st : ℕ → Parcel) (stand : StandTogether 4 st) where
 
   pub layout-undamaged : Undamaged (layout st)
   layout-undamaged =
-      record {
-        few-rings = λ i il. rw (rings-read (layout st) i (st i) (lies i il)) (few-rings (st i) (stand .each i il));
-        none-breaks = λ i R il e n r lo hi b. (subst (ParcelKeeps 4) (sym (layout-parcel i il) ∙ e) (stand .each i il)) .keeps n r hi b;
-      }
+      stand-undamaged (layout st) (λ i il. rw (rings-read (layout st) i (st i) (lies i il)) (few-rings (st i) (stand .each i il)))
+      (λ i il. subst (ParcelKeeps 4) (sym (layout-parcel i il)) (stand .each i il))
 
   module _ (i : ℕ) (p : Parcel) where
     standing-is : (k : ℕ) → k < slots → instead (parcelAt (layout st)) i p k ≡ instead st i p k

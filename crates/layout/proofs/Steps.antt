@@ -85,7 +85,7 @@ module _ (s : Sheet) (i : ℕ) (R : Region) (ready : Ready s i (parcelOf R)) whe
     unfolding after
     whole-written =
         subst₂ Whole (sym numbers-written) (sym entries-written)
-        (undamaged-whole (withParcel s i (parcelOf R)) (with-lists s i (parcelOf R)) (with-undamaged s i (parcelOf R) ready))
+        (undamaged-whole (withParcel s i (parcelOf R)) (with-lists s i (parcelOf R) ready) (with-undamaged s i (parcelOf R) ready))
 
     -- what the row and the column are written from
     parcel-there : (k : ℕ) → k < slots → inSlot xs records k ≡ instead (parcelAt s) i (parcelOf R) k

@@ -27,7 +27,7 @@ use Rattle.layout.specs.Changes.{withParcel, TouchesOnly}
 use Rattle.layout.specs.Steps.{Ready}
 use Rattle.layout.proofs.Blocks.{block-of, place-in}
 use Rattle.layout.proofs.Slots.{few-rings, Lies, rings-read, parcel-read, Agree, rings-same, parcel-same}
-use Rattle.layout.proofs.Undamaged.{slot-lists, undamaged-stand, undamaged-whole}
+use Rattle.layout.proofs.Undamaged.{stand-undamaged, slot-lists, undamaged-stand, undamaged-whole}
 
 -- ---- a table of which only the places that pass a test differ from a list
 module _ {A : Type 0} (d : A) (t : ℕ → Bool) (f : ℕ → A) (l : List A) (n : ℕ) where
@@ -49,9 +49,9 @@ touches-none s i =
     record { coordinate-list = refl; record-list = refl; relation-list = refl; numbers = λ k h. refl; entries = λ k h. refl; cells = λ k g h. refl }
 
 module _ (s : Sheet) (i : ℕ) (p : Parcel) where
-  pub with-lists : RightLists (withParcel s i p)
+  lengths : RightLists (withParcel s i p)
   unfolding withParcel
-  with-lists = record { coordinate-list = length-tab _ coordinatesLength; record-list = length-tab _ recordsLength; relation-list = length-tab _ relationsLength }
+  lengths = record { coordinate-list = length-tab _ coordinatesLength; record-list = length-tab _ recordsLength; relation-list = length-tab _ relationsLength }
 
   -- ---- the slot's own numbers, and all others
   with-lies : i < slots → Lies (withParcel s i p) i p
@@ -87,6 +87,9 @@ module _ (s : Sheet) (i : ℕ) (p : Parcel) where
   module _ (ready : Ready s i p) where
     right : RightLists s
     right = ready .change .lists
+
+    pub with-lists : RightLists (withParcel s i p)
+    with-lists = lengths
 
     pub with-touches : TouchesOnly i s (withParcel s i p)
     with-touches = touches right
@@ -127,8 +130,4 @@ module _ (s : Sheet) (i : ℕ) (p : Parcel) where
         go false = undamaged-stand s right (ready .change .undamaged) .each k kl
 
     pub with-undamaged : Undamaged (withParcel s i p)
-    with-undamaged =
-        record {
-          few-rings = rings-few;
-          none-breaks = λ k R kl e n r lo hi b. (subst (ParcelKeeps 4) (sym (parcel-standing k kl) ∙ e) (standing-keeps k kl)) .keeps n r hi b;
-        }
+    with-undamaged = stand-undamaged (withParcel s i p) rings-few (λ k kl. subst (ParcelKeeps 4) (sym (parcel-standing k kl)) (standing-keeps k kl))

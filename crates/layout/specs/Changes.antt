@@ -4,8 +4,9 @@
 --   withParcel s i p        the sheet s with p in slot i
 --   TouchesOnly i s t       the tender's condition 3, place by place: t differs from s at most in the room and the record of slot i, and
 --                           in its row and its column. That withParcel keeps to it: proofs/Written, `with-touches`
---   changeNumber s i        the refusal of any change of slot i, or 0;  wholeNumber s  the refusal of a call on the whole sheet, or 0
---   Changeable s i          nothing refuses a change of slot i. That it is so exactly where the number is 0: proofs/Refused, `change-means`
+--   changeNumber s i        the refusal of any change of slot i, or 0
+--   wholeNumber s           the refusal of a call on the whole sheet, or 0. Its meaning: proofs/Refusing, `whole-means`
+--   Changeable s i          nothing refuses a change of slot i. That it is so exactly where the number is 0: proofs/Refusing, `change-means`
 use mathlib.Core.Path.{_≡_}
 use mathlib.Core.Logic.{_≢_}
 use mathlib.Core.Bool.{_||_}

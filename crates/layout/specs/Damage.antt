@@ -1,8 +1,8 @@
--- Document 01, rule 12: a sheet is damaged where some slot has more than 8 rings, or is not empty and breaks rule 2, 3 or 4. Of rule 3 only
--- the last end can be broken there: a slot has always as many coordinates as its last end asks.
+-- Document 01, rule 12: a sheet is damaged where some slot has more than 8 rings, or is not empty and breaks rule 2, rule 3 by its last end,
+-- or rule 4.
 --   Undamaged s             rule 12 is kept
 --   breaksRule R n          some ring of the region breaks rule n, tested
---   damagedAt xs records i  slot i is damaged, tested;  damaged s  some slot is. Its meaning: proofs/Damage, `undamaged-means`
+--   damagedAt xs records i  slot i is damaged, tested;  damaged s  some slot is. Its meaning: proofs/Undamaged, `undamaged-means`
 use mathlib.Core.Path.{_≡_}
 use mathlib.Core.Bool.{Bool, not, _&&_, _||_}
 use mathlib.Core.List.{List}
@@ -11,7 +11,7 @@ use lib.Dec.{ltb}
 use lib.IntN.{ℤ}
 use lib.ListN.{length}
 use Rattle.plane.specs.Folds.{anyTo}
-use Rattle.outline.specs.Region.{Region, outline, mostRings}
+use Rattle.outline.specs.Region.{Region, outline, mostRings, mostVertices, lastEnd}
 use Rattle.outline.specs.Rules.{Breaks}
 use Rattle.outline.specs.Check.{breaksAt}
 use Rattle.layout.specs.Sheet.{Sheet, slots}
@@ -19,15 +19,17 @@ use Rattle.layout.specs.Slots.{ringsIn, emptyIn, regionIn, parcelAt}
 
 pub record Undamaged (s : Sheet) : Type 0 where
   pub few-rings : (i : ℕ) → i < slots → ringsIn (s .records) i ≤ mostRings
-  pub none-breaks : (i : ℕ) (R : Region) → i < slots → parcelAt s i ≡ outline R → (n r : ℕ) → 2 ≤ n → n ≤ 4 → Breaks R n r → ⊥
+  pub none-short : (i : ℕ) (R : Region) → i < slots → parcelAt s i ≡ outline R → (r : ℕ) → Breaks R 2 r → ⊥
+  pub low-end : (i : ℕ) (R : Region) → i < slots → parcelAt s i ≡ outline R → lastEnd (R .ends) ≤ mostVertices
+  pub none-outside : (i : ℕ) (R : Region) → i < slots → parcelAt s i ≡ outline R → (r : ℕ) → Breaks R 4 r → ⊥
 
 abbrev pub breaksRule : Region → ℕ → Bool
 breaksRule R n = anyTo (breaksAt R n) (length (R .ends))
 
 unfoldable pub damagedAt : List ℤ → List ℕ → ℕ → Bool
 damagedAt xs records i =
-    ltb mostRings (ringsIn records i)
-    || (not (emptyIn records i) && (breaksRule (regionIn xs records i) 2 || (breaksRule (regionIn xs records i) 3 || breaksRule (regionIn xs records i) 4)))
+    let R = regionIn xs records i in
+    ltb mostRings (ringsIn records i) || (not (emptyIn records i) && (breaksRule R 2 || (ltb mostVertices (lastEnd (R .ends)) || breaksRule R 4)))
 
 unfoldable pub damaged : Sheet → Bool
 damaged s = anyTo (damagedAt (s .coordinates) (s .records)) slots

@@ -5,7 +5,7 @@
 --   coordinatesLength, recordsLength, relationsLength    how long the three lists are
 --   Sheet                   the three lists;  sheetOf xs records relations  the sheet whose lists these are
 --   RightLists s            rule 11 is kept: each list has its length
---   wrongLists s            the test of rule 11. Its meaning: proofs/Lists, `lists-mean`
+--   wrongLists s            the test of rule 11. Its meaning: proofs/RightLists, `lists-mean`
 --   wrongTables records relations    the same for a reading, which is lent these two lists only
 use mathlib.Core.Path.{_≡_}
 use mathlib.Core.Bool.{Bool, not, _||_}
