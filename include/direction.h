@@ -48,7 +48,7 @@ uint32_t direction_report(const uint8_t *card, size_t card_length, uint8_t *repo
 #define DIRECTION_REPORT_LENGTH 38
 #define DIRECTION_CARD_MOST 17036 /* the longest card of any number of parcels; a longer one is refused (14) */
 #define DIRECTION_STACK 4096      /* stack of a call, at most; memcpy and memset are the host's and not counted */
-#define DIRECTION_CODE 16384      /* code and constants of the archive, at most; it has no variables */
+#define DIRECTION_CODE 24576      /* code and constants of the archive, at most; it has no variables */
 
 /* The refusals, in the order in which they are looked for. The first that applies is answered. */
 #define DIRECTION_REFUSED_REPORT_SHORT 10  /* the report buffer has under 38 bytes; the card is not looked at */
@@ -103,11 +103,11 @@ static inline unsigned direction_word(const uint8_t *report, unsigned place)
  *   then             for each parcel, for each vertex: x and y, signed, four bytes each. x grows east, y north.
  *   The length is exactly 12 + 4 P + 2 R + 8 V. Rings are clockwise, the last vertex joins the first and is not repeated.
  *
- * Where the numbers above come from, of the archive as rt makes it. Stack: 3,688 bytes, added up from its code (tools/host-stack): it has no
+ * Where the numbers above come from, of the archive as rt makes it. Stack: 3,392 bytes, added up from its code (tools/host-stack): it has no
  * recursion and no frame of variable size, so its deepest chain of calls tells what any card can take. Seen in runs (tools/host-cost.c):
- * 3,552 bytes, the most over 2,001 cards, the 2,000 good and bad ones that `independent cards 2000 1` makes and examples/two-parcels.card,
+ * 3,184 bytes, the most over 2,001 cards, the 2,000 good and bad ones that `independent cards 2000 1` makes and examples/two-parcels.card,
  * with the memcpy and memset of the C library that rt's programs run with; another card may take more, up to the first number. Code and
- * constants: 15,942 bytes (readelf). The gate (.ci/run) takes all three again and holds them to the sizes above.
+ * constants: 19,690 bytes (readelf). The gate (.ci/run) takes all three again and holds them to the sizes above.
  */
 
 #ifdef __cplusplus

@@ -20,7 +20,7 @@ use Rattle.relation.specs.Relation.{RegionBox, RegionHas, regionBox, relationOf
 use Rattle.relation.proofs.Relation.{relation-tile}
 use Rattle.matrix.specs.Directions.{opposite}
 use Rattle.pair.specs.Answer.{pairOf}
-use Rattle.pair.proofs.Laws.{directions-turned}
+use Rattle.pair.proofs.Directions.{directions-turned}
 use Rattle.layout.specs.Sheet.{Sheet, slots}
 use Rattle.layout.specs.Layout.{selfCell, cellOf}
 use Rattle.layout.specs.Slots.{cellIn}
