@@ -13,3 +13,4 @@ pub mod Blank
 mod SlotCells
 pub mod Steps
 pub mod Rows
+pub mod Only

@@ -3,4 +3,5 @@ pub mod Loading
 pub mod Loads
 mod Parts
 mod WholeCard
+pub mod Orders
 pub mod Only

@@ -3,7 +3,7 @@
 --   headerOf p r v          the six numbers of the header of a card with so many parcels, rings and vertices
 --   entryBytes i there n    the entry of slot i, where a parcel with n rings is there
 --   entryPart, endPart, vertexPart     the three parts of the card of what stands in the slots below n
---   cardOf st               the card of the parcels st, in rising slot order
+--   cardOf st               the card of the parcels st, in rising slot order. Word by word: proofs/Orders, `card-words`
 --   writeNumber s buffer    the refusal of writing the sheet s into the buffer, or 0
 --   written s buffer        what writing answers: number and length;  write s buffer  the buffer at exit
 use mathlib.Core.Bool.{Bool}

@@ -29,9 +29,13 @@ module _ (s : tie.Start Inv-loop μ-loop) where
   good : GoodCard card
   good = good-means card .0 (s .pre .1)
 
+module _ (c : tie.After-clear Inv-loop μ-loop) where
+  abbrev begin : tie.Start Inv-loop μ-loop
+  begin = c .before .before .before .before .before .before .before
+
 module _ (c : tie.At-loop Inv-loop μ-loop) where
   abbrev start : tie.Start Inv-loop μ-loop
-  start = c .before .before .before .before .before .before .before .before .before .before .before .before .before .before
+  start = begin (c .before .before .before .before .before .before .before)
 
   few : c .loop .k ≤ parcelCount (card start)
   few = omega (arith, c .loop .inv .0, c .before .parcel-count .ensures)
@@ -45,14 +49,12 @@ clear-requires : tie.Need-clear-requires Inv-loop μ-loop
 clear-requires c κs = search needs
 
 parcel-count-requires : tie.Need-parcel-count-requires Inv-loop μ-loop
-parcel-count-requires c κs =
-    let s = c .before .before .before .before .before .before .before .before .before .before .before .before in
-    omega (arith, good s .whole-length)
+parcel-count-requires c κs = omega (arith, good (begin (c .before .before .before .before .before)) .whole-length)
 
 loop-holds : tie.Need-loop-holds Inv-loop μ-loop
 loop-holds c =
-    let s = c .before .before .before .before .before .before .before .before .before .before .before .before .before in
-    (omega arith, cleared _ (card s) (s .pre .0) (c .before .before .before .before .before .before .clear .ensures .1))
+    let z = c .before .before .before .before .before .before in
+    (omega arith, cleared _ (card (begin z)) (begin z .pre .0) (z .clear .ensures .1))
 
 put-parcel-requires : tie.Need-put-parcel-requires Inv-loop μ-loop
 put-parcel-requires c κs = search needs
