@@ -1,4 +1,4 @@
--- The directions cell by cell, as the set of directions is made; cells are numbered by row.
+-- No rule stands here: the directions cell by cell, as the code makes the set of them; cells are numbered by row.
 --   lies m c d k      cell d holds b, and cell c lies in direction k from it
 --   starts m c k      cell c holds a, and lies in direction k from some cell holding b
 use mathlib.Core.Bool.{Bool, _&&_}

@@ -1,4 +1,4 @@
--- The grid of two boxes as a struct keeps it: each axis has at most four lines, so four places, 0 past the last line.
+-- No rule stands here: the grid of specs/Holding as a struct keeps it. Each axis has at most four lines, so four places, 0 past the last line.
 --   padded l         the lines l in four places
 --   rising l         the same with their number;  linesIn k  the list that such a struct stands for
 --   gridOf a b       the grid of two boxes: the matrix's size and the lines of both axes
@@ -9,7 +9,7 @@ use lib.ListN.{length, getD}
 use Rattle.plane.specs.Lists.{tab}
 use Rattle.plane.specs.declared.Box.{Box}
 use Rattle.matrix.specs.declared.Rising.{Rising}
-use Rattle.matrix.specs.declared.KeptGrid.{KeptGrid}
+use Rattle.matrix.specs.declared.Grid.{Grid}
 use Rattle.matrix.specs.Holding.{acrossLines, upLines, columnCount, rowCount, Rectangle}
 
 abbrev pub padded : List ℕ → List ℕ
@@ -21,10 +21,10 @@ rising l = record { count = length l; at = padded l }
 abbrev pub linesIn : Rising → List ℕ
 linesIn k = tab (λ i. getD (k .at) i 0) (k .count)
 
-unfoldable pub gridOf : Box → Box → KeptGrid
+unfoldable pub gridOf : Box → Box → Grid
 gridOf a b = record { rows = rowCount a b; columns = columnCount a b; up = padded (upLines a b); across = padded (acrossLines a b) }
 
-unfoldable pub cellIn : KeptGrid → (i j : ℕ) → Box
+unfoldable pub cellIn : Grid → (i j : ℕ) → Box
 cellIn g i j =
     record {
       west = getD (g .across) j 0;
