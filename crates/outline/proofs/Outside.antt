@@ -1,5 +1,5 @@
 -- Rule 4: the test of a coordinate and what it says.
---   outside-in-means    a stretch of vertices
+--   outside-in-means    a stretch of vertices;  some-outside-means  a whole list
 --   ring-in-range       where none of a ring's coordinates lies outside, the ring is in range
 use mathlib.Core.Path.{_≡_, refl, ap}
 use mathlib.Core.Logic.{_↔_, _⊎_, inl, inr, ⊎-elim}
@@ -9,14 +9,15 @@ use Prim.Native.Nat.{ℕ, _≤_, _<_}
 use native.Mathlib.Omega.{arith}
 use lib.Dec.{leb, ltb}
 use lib.IntN.{ℤ, pos, negsuc}
+use lib.ListN.{length, getD}
 use borrow.Author.Tests.{ltb-true, ltb-false, lt-ltb, le-ltb, leb-false, lt-leb, not-true}
 use Rattle.plane.specs.Place.{inRange}
 use Rattle.plane.proofs.Logic.{never, iff-join, iff-or, or-means}
 use Rattle.plane.proofs.Place.{below-means}
-use Rattle.plane.proofs.Folds.{any-means}
+use Rattle.plane.proofs.Folds.{any-means, some-means}
 use Rattle.ring.specs.Edges.{corner, RingInRange}
 use Rattle.outline.specs.Rules.{Outside, OutsideIn}
-use Rattle.outline.specs.Check.{outsideIn}
+use Rattle.outline.specs.Check.{outsideIn, someOutside}
 
 outside-means : (z : ℤ) → (not (inRange z) ≡ true) ↔ Outside z
 unfolding inRange
@@ -51,6 +52,10 @@ outside-in-means xs from n = iff-join (any-means _ n) (λ p. (p .0, p .1, each (
   where
     each : (k : ℕ) → (not (inRange ((corner xs from k) .x)) || not (inRange ((corner xs from k) .y)) ≡ true) ↔ (Outside ((corner xs from k) .x) ⊎ Outside ((corner xs from k) .y))
     each k = iff-join (or-means (not (inRange ((corner xs from k) .x))) (not (inRange ((corner xs from k) .y)))) (iff-or (outside-means ((corner xs from k) .x)) (outside-means ((corner xs from k) .y)))
+
+pub some-outside-means : (xs : List ℤ) → (someOutside xs ≡ true) ↔ ((i : ℕ) × (i < length xs) × Outside (getD xs i (pos 0)))
+unfolding someOutside
+some-outside-means xs = some-means _ _ (length xs) (λ i l. outside-means (getD xs i (pos 0)))
 
 pub ring-in-range : (xs : List ℤ) (from n : ℕ) → (OutsideIn xs from n → ⊥) → RingInRange xs from n
 ring-in-range xs from n h =

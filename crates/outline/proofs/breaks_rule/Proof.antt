@@ -9,12 +9,10 @@ use Rattle.ring.specs.Stretch.{Stretch}
 use Rattle.ring.specs.Repeated.{repeated}
 use Rattle.ring.specs.Tangled.{tangled}
 use Rattle.ring.specs.Turning.{clockwise}
-use Rattle.bands.specs.Bands.{mostEdges}
 use Rattle.simple.specs.declared.Faults.{Faults}
 use Rattle.simple.specs.Faults.{faultsOf}
 use Rattle.outline.specs.Region.{Region, regionOf, startOf, sizeOf}
 use Rattle.outline.specs.Check.{outsideIn, ofRing, breaksAt}
-use Rattle.outline.proofs.Ends.{size-least, ring-in-last}
 use Rattle.outline.proofs.Keeps.{keeps-fewer, Sized, sized, in-range, ring-order, ring-room, ring-stretch}
 use Rattle.outline.proofs.breaks_rule.Statement.{statement}
 use Rattle.outline.proofs.breaks_rule.Tie as tie
@@ -49,17 +47,13 @@ module _ (c : tie.After-size-of) where
       answered (Stretch (region begin .coordinates)) (c .before .start-of .ensures) (c .size-of .ensures)
       (ring-stretch (kept begin) ring (begin .pre .3) (in-range (keeps-fewer (omega (arith, begin .pre .0)) (begin .pre .2))))
 
-  sizes : (3 ≤ c .size-of .result) × (c .size-of .result ≤ mostEdges)
-  sizes =
-      answered (λ from n. (3 ≤ n) × (n ≤ mostEdges)) (c .before .start-of .ensures) (c .size-of .ensures) (
-        omega (arith, size-least (region begin .ends) (kept begin .grown) ring (begin .pre .3)),
-        omega (arith, ring-in-last (region begin .ends) (kept begin .grown) ring (begin .pre .3), kept begin .small),
-      )
+  -- a test of the ring, and of the stretch that the calls answered
+  of-ring : {b t : Bool} → b ≡ t → b ≡ ofRing (region begin) ring t
+  of-ring e = e ∙ sym (rw (lt-ltb ring (length (region begin .ends)) (begin .pre .3)) refl)
 
-  -- a test of the stretch is one of the ring
   told : (t : ℕ → ℕ → Bool) {b : Bool} → b ≡ t (c .before .start-of .result) (c .size-of .result)
       → b ≡ ofRing (region begin) ring (t (startOf (region begin .ends) ring) (sizeOf (region begin .ends) ring))
-  told t e = e ∙ ap₂ t (c .before .start-of .ensures) (c .size-of .ensures) ∙ sym (rw (lt-ltb ring (length (region begin .ends)) (begin .pre .3)) refl)
+  told t e = of-ring (e ∙ ap₂ t (c .before .start-of .ensures) (c .size-of .ensures))
 
 start-of-requires : tie.Need-start-of-requires
 start-of-requires c κs = search needs
@@ -81,17 +75,12 @@ returns-2 : tie.Need-returns-2
 unfolding breaksAt
 returns-2 c = let q = c .before .before .before in rw (c .before .if2 .taken) (told q (repeated (region (begin q) .coordinates)) (c .ring-repeats .ensures))
 
-ring-faults-requires : tie.Need-ring-faults-requires
-ring-faults-requires c κs =
-    let q = c .before .before .before in
-    let s = sizes q in
-    (stretch q (c .before .before .if1 .left), s .0, s .1)
+faults-at-requires : tie.Need-faults-at-requires
+faults-at-requires c κs = let p = begin (c .before .before .before) .pre in (keeps-fewer (omega arith) (p .2), p .3)
 
 returns-3 : tie.Need-returns-3
 unfolding breaksAt faultsOf
-returns-3 c =
-    let q = c .before .before .before .before in
-    rw (c .before .if3 .taken) (told q (tangled (region (begin q) .coordinates)) (ap (λ (f : Faults). f .tangled) (c .ring-faults .ensures)))
+returns-3 c = rw (c .before .if3 .taken) (of-ring (c .before .before .before .before) (ap (λ (f : Faults). f .tangled) (c .faults-at .ensures)))
 
 ring-clockwise-requires : tie.Need-ring-clockwise-requires
 ring-clockwise-requires c κs = stretch (c .before .before .before) (c .before .before .if1 .left)
@@ -113,7 +102,7 @@ breaks-rule-spec =
     returns
     ring-repeats-requires
     returns-2
-    ring-faults-requires
+    faults-at-requires
     returns-3
     ring-clockwise-requires
     returns-4)
