@@ -1,16 +1,14 @@
 -- The tests of one slot in the order in which they are made: each answer that ends them is that of rule 12.
 --   none, many             the slot is empty; it has too many rings
 --   Looked xs records i    it is neither, so its ring ends may be read
---   short, high, outside   a ring is short; the last end is too high; a coordinate is looked for that lies outside
+--   short, high, outside   a ring is short; the last end is too high; or else whether a coordinate lies outside
 --   outlined, sizes-kept   what is known when the coordinates are looked at
-use mathlib.Core.Path.{_≡_, refl, sym, _∙_}
+use mathlib.Core.Path.{_≡_, refl, sym}
 use mathlib.Core.Logic.{_≢_, inl}
 use mathlib.Core.Bool.{Bool, true, false}
 use mathlib.Core.List.{List}
 use Prim.Native.Nat.{ℕ, _<_, _≤_}
 use native.Mathlib.Omega.{arith}
-use native.Mathlib.Decide.{decLt}
-use lib.Dec.{ltb}
 use lib.IntN.{ℤ}
 use lib.ListN.{length}
 use borrow.Author.Tests.{lt-ltb, le-ltb, ltb-true, ltb-false, eq-eqb, ne-eqb}
@@ -18,9 +16,9 @@ use Rattle.plane.specs.Folds.{firstOf}
 use Rattle.plane.proofs.Folds.{first-below, first-passes}
 use Rattle.outline.specs.Region.{Region, mostRings, mostVertices, lastEnd}
 use Rattle.outline.specs.Rules.{Breaks, Keeps}
-use Rattle.outline.specs.Check.{shortAt, breaksAt}
-use Rattle.outline.proofs.Keeps.{sized-keeps}
-use Rattle.outline.proofs.Check.{ring-refused, ring-kept}
+use Rattle.outline.specs.Check.{shortAt, someOutside}
+use Rattle.outline.proofs.Keeps.{sized, sized-keeps}
+use Rattle.outline.proofs.Rings.{outside-means, none-outside}
 use Rattle.layout.specs.Sheet.{slots}
 use Rattle.layout.specs.Standing.{ParcelKeeps}
 use Rattle.layout.specs.Slots.{ringsIn, emptyIn, endsIn, regionIn, inSlot}
@@ -96,9 +94,9 @@ module _ {xs : List ℤ} {records : List ℕ} {i : ℕ} (looked : Looked xs reco
             listed = coordinates-length xs records i outlined;
           })
 
-      pub outside : {m : ℕ} → m ≡ firstOf (breaksAt R 4) (length (endsIn records i)) → ltb m (ringsIn records i) ≡ damagedAt xs records i
-      outside {m} q =
-          elim (decLt m (ringsIn records i)) [
-            | yes l ↦ lt-ltb m (ringsIn records i) l ∙ damage 4 m (omega arith) (ring-refused 4 (omega arith) sizes-kept q (omega (arith, rings)) .broken)
-            | no l ↦ le-ltb m (ringsIn records i) (omega arith) ∙ good (ring-kept 4 (omega arith) sizes-kept q (omega (arith, rings)))
-          ]
+      pub outside : someOutside (R .coordinates) ≡ damagedAt xs records i
+      outside = go (someOutside (R .coordinates)) refl
+        where
+          go : (t : Bool) → someOutside (R .coordinates) ≡ t → t ≡ damagedAt xs records i
+          go true e = let b = outside-means (sized sizes-kept) .0 e in damage 4 (b .0) (omega arith) (b .1)
+          go false e = good (none-outside sizes-kept e)

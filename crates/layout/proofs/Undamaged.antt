@@ -13,13 +13,13 @@ use lib.IntN.{ℤ}
 use lib.ListN.{length}
 use borrow.Author.Tests.{ltb-false, le-ltb, eqb-false}
 use Rattle.plane.specs.Folds.{anyTo}
-use Rattle.plane.proofs.Logic.{never, clash, is-false}
-use Rattle.plane.proofs.Folds.{any-means, any-none}
+use Rattle.plane.proofs.Folds.{any-none}
 use Rattle.outline.specs.Region.{Region, outline, mostRings, mostVertices, lastEnd}
 use Rattle.outline.specs.Rules.{Keeps}
 use Rattle.outline.specs.Check.{breaksAt}
-use Rattle.outline.proofs.Keeps.{keeps-more, keeps-fewer, counted-keeps, listed-keeps, broken-ring}
-use Rattle.outline.proofs.Tests.{breaks-means, keeps-passes}
+use Rattle.outline.proofs.Keeps.{keeps-more, keeps-fewer, counted-keeps, listed-keeps}
+use Rattle.outline.proofs.Search.{or-false, none-any}
+use Rattle.outline.proofs.Tests.{keeps-passes, passes-keeps}
 use Rattle.layout.specs.Sheet.{Sheet, slots, RightLists}
 use Rattle.layout.specs.Standing.{ParcelKeeps, StandTogether}
 use Rattle.layout.specs.Slots.{ringsIn, emptyIn, regionIn, inSlot, parcelAt}
@@ -27,17 +27,9 @@ use Rattle.layout.specs.Damage.{Undamaged, breaksRule, damagedAt, damage
 use Rattle.layout.specs.Steps.{SlotLists, Counted, Whole}
 use Rattle.layout.proofs.Slots.{keeps-sized, few-vertices, parcel-empty, parcel-there, ends-in, rings-length, coordinates-length}
 
-none-any : (f : ℕ → Bool) (n i : ℕ) → anyTo f n ≡ false → i < n → f i ≡ false
-none-any f n i h l = is-false (f i) (λ e. clash (anyTo f n) (any-means f n .1 (i, l, e)) h)
-
-or-false : (a b : Bool) → a || b ≡ false → (a ≡ false) × (b ≡ false)
-or-false true b h = never (sym h)
-or-false false b h = (refl, h)
-
 -- ---- one rule more, by its test
 passed : (R : Region) (n : ℕ) → 0 < n → Keeps n R → breaksRule R (suc n) ≡ false → Keeps (suc n) R
-passed R n l kept h =
-    keeps-more kept (λ r b. clash (breaksAt R (suc n) r) (breaks-means R r n kept .1 b) (none-any (breaksAt R (suc n)) (length (R .ends)) r h (broken-ring n r l kept b)))
+passed R n l kept h = passes-keeps R n l kept (λ r. none-any (breaksAt R (suc n)) (length (R .ends)) r h)
 
 passes : (R : Region) (n : ℕ) → Keeps (suc n) R → breaksRule R (suc n) ≡ false
 passes R n kept = any-none (breaksAt R (suc n)) (length (R .ends)) (λ r l. keeps-passes R r n kept)

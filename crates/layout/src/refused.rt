@@ -14,13 +14,12 @@ use crate::storage::outline_at;
 use crate::storage::ring_count;
 use outline::MOST_RINGS;
 use outline::MOST_VERTICES;
-use outline::first_breaking;
 use outline::first_short;
 use outline::last_end;
-use outline::refusals::COORDINATE_RANGE;
 use outline::refusals::SHEET_DAMAGED;
 use outline::refusals::SHEET_LISTS;
 use outline::refusals::SLOT_NUMBER;
+use outline::some_outside;
 
 // Ring count, ends, last end, coordinates: each is looked at only where those before it are good, so nothing is read past its room.
 fn slot_damaged(xs: &[i32], records: &[u16], slot: usize) -> bool
@@ -41,7 +40,7 @@ fn slot_damaged(xs: &[i32], records: &[u16], slot: usize) -> bool
     if MOST_VERTICES < last_end(ends) {
         return true;
     }
-    first_breaking(outline_at(xs, records, slot), ends, COORDINATE_RANGE) < count
+    some_outside(outline_at(xs, records, slot))
 }
 
 fn slots_damaged(xs: &[i32], records: &[u16]) -> bool

@@ -1,15 +1,13 @@
-use mathlib.Core.Path.{_≡_, sym, ap, ap₂, _∙_, subst}
+use mathlib.Core.Path.{_≡_, sym, ap, _∙_}
 use mathlib.Core.List.{List}
 use Prim.Native.Nat.{ℕ, _≤_}
 use native.Mathlib.Omega.{arith}
-use lib.Dec.{ltb}
 use lib.ListN.{length}
 use Rattle.plane.specs.Folds.{firstOf}
-use Rattle.outline.specs.Region.{Region, regionOf, mostVertices, lastEnd}
-use Rattle.outline.specs.Rules.{Keeps}
-use Rattle.outline.specs.Check.{shortAt, breaksAt}
-use Rattle.layout.specs.Slots.{ringsIn, endsIn, regionIn}
-use Rattle.layout.proofs.SlotTests.{Looked, none, many, counted, short, high, outlined, sizes-kept, outside}
+use Rattle.outline.specs.Region.{mostVertices, lastEnd}
+use Rattle.outline.specs.Check.{shortAt, someOutside}
+use Rattle.layout.specs.Slots.{ringsIn, endsIn}
+use Rattle.layout.proofs.SlotTests.{Looked, none, many, counted, short, high, outlined, outside}
 use borrow.Author.Needs.{needs}
 use Rattle.layout.proofs.refused.slot_damaged.Statement.{statement}
 use Rattle.layout.proofs.refused.slot_damaged.Tie as tie
@@ -76,23 +74,14 @@ outline-at-requires c κs =
     let f = c .before .before .before in
     outlined (looked (f .before .before)) (searched f) (long c) (low c)
 
--- the region that was read
-module _ (c : tie.After-outline-at) where
-  read : let a = c .before .before .before .before .before .before .before .before .before .before .args in
-      regionOf (c .outline-at .result .now) (c .before .before .before .before .before .ends-at .result .now) ≡ regionIn (a .xs .now) (a .records .now) (a .slot)
-  read = ap₂ regionOf (c .outline-at .ensures) (c .before .before .before .before .before .ends-at .ensures)
-
-first-breaking-requires : tie.Need-first-breaking-requires
-first-breaking-requires c κs =
-    let f = c .before .before .before .before in
-    (omega arith, omega arith, subst (Keeps 3) (sym (read c)) (sizes-kept (looked (f .before .before)) (searched f) (long (c .before)) (low (c .before))))
+some-outside-requires : tie.Need-some-outside-requires
+some-outside-requires c κs = search needs
 
 returns-5 : tie.Need-returns-5
 returns-5 c =
     let e = c .before .before in
     let f = e .before .before .before in
-    ap (ltb (c .first-breaking .result)) (f .before .before .before .before .ring-count .ensures)
-    ∙ outside (looked (f .before .before)) (searched f) (long e) (low e) (c .first-breaking .ensures ∙ ap (λ (R : Region). firstOf (breaksAt R 4) (length (R .ends))) (read (c .before)))
+    c .some-outside .ensures ∙ ap someOutside (c .before .outline-at .ensures) ∙ outside (looked (f .before .before)) (searched f) (long e) (low e)
 
 pub slot-damaged-spec : {M : Type 1} → statement M
 slot-damaged-spec =
@@ -107,5 +96,5 @@ slot-damaged-spec =
     last-end-requires
     returns-4
     outline-at-requires
-    first-breaking-requires
+    some-outside-requires
     returns-5)
