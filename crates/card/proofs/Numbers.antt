@@ -1,6 +1,5 @@
 -- Which numbers a card can be refused with.
---   CardsOwn n           n is one of the numbers that refuse a card by itself: 2 to 7, 14, 15 or 16
---   card-number-either   a card's number is 0 or one of them, and no other
+--   card-number-either   a card's number is 0 or one of those that refuse a card by itself (`CardsOwn`), and no other
 --   not-good-means       it is one of them exactly when the card is not good
 --   shape-number-either  a parcel's number by rules 4 to 7 is 0 or one of 4 to 7
 use mathlib.Core.Path.{_≡_, refl}
@@ -20,11 +19,8 @@ use Rattle.outline.specs.Region.{Region, mostRings, mostVertices, lastEnd}
 use Rattle.outline.specs.Check.{shortAt, breaksAt, firstBreaking, shapeOf, numberOf}
 use Rattle.card.specs.Reading.{parcelCount, endsAt, regionAt}
 use Rattle.card.specs.CardNumber.{wrongHeader, wrongParcels, wrongVertices, sizesNumber, shapeNumber, cardNumber}
-use Rattle.card.specs.Good.{GoodCard}
+use Rattle.card.specs.Good.{GoodCard, CardsOwn}
 use Rattle.card.proofs.Good.{good-means}
-
-abbrev pub CardsOwn : ℕ → Type 0
-CardsOwn n = ((2 ≤ n) × (n ≤ 7)) ⊎ ((14 ≤ n) × (n ≤ 16))
 
 -- ---- what holds of every number that can come, holds of the one that comes
 module _ (Can : ℕ → Type 0) (none : Can 0) where

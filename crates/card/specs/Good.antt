@@ -1,6 +1,8 @@
 -- Document 01, "The card", with rows 14, 15 and 16 of the table: which bytes are a good card.
 --   GoodCard b     every sentence on the layout holds of the bytes b, and every parcel keeps rules 1 to 7
+--   CardsOwn n     n is one of the numbers that refuse a card by itself: 2 to 7, 14, 15 or 16
 use mathlib.Core.Path.{_≡_}
+use mathlib.Core.Logic.{_⊎_}
 use mathlib.Core.List.{List}
 use Prim.Native.Nat.{ℕ, _+_, _≤_, _<_}
 use lib.ListN.{length}
@@ -26,3 +28,6 @@ pub record GoodCard (b : List ℕ) : Type 0 where
   pub rings-add : sumTo (countAt b) (parcelCount b) ≡ ringCount b
   pub vertices-add : sumTo (λ k. lastEnd (endsAt b k)) (parcelCount b) ≡ vertexCount b
   pub parcels-keep : (k : ℕ) → k < parcelCount b → KeepsRules (regionAt b k)
+
+abbrev pub CardsOwn : ℕ → Type 0
+CardsOwn n = ((2 ≤ n) × (n ≤ 7)) ⊎ ((14 ≤ n) × (n ≤ 16))

@@ -1,8 +1,7 @@
 -- What the call for the C host answers, exactly when. The first region is that of the card's parcel 0, the second that of parcel 1; their pair answer
 -- is explained field by field in pair/proofs (Laws, Cells, Directions, Compass).
 -- The number:
---   Reported               the report has room for 38 bytes, the card is good and has two parcels
---   number-none-means      the number is 0 exactly then
+--   number-none-means      the number is 0 exactly when the report has room for 38 bytes, the card is good and has two parcels (`Reported`)
 --   number-short-means     it is 10 exactly when the report has less room
 --   number-own-means       it is one of the numbers of a card (2 to 7, 14, 15, 16) exactly when the report has room and the card has that number
 --   number-not-good        which it has wherever the report has room and the card is not good
@@ -14,7 +13,7 @@
 --   report-behind          its bytes past 38 are as they were found
 --   report-reads           where the number is 0, number k read from it is number k of the pair answer's 19
 --   report-named           the first three, number, region and ring, are 0
---   ReportHas, report-has  the other sixteen, one by one, with the byte at which each begins
+--   report-has             the other sixteen, one by one (`ReportHas`)
 --   report-tile            bit t of its number 3 is 1 exactly when the first region has tile t of the second's box;  report-back-tile  bit t of number
 --                          4 exactly when the second has tile t of the first's
 use mathlib.Core.Path.{_≡_, refl, sym, _∙_, ap, subst}
@@ -36,18 +35,20 @@ use Rattle.relation.specs.Relation.{RegionBox, RegionHas}
 use Rattle.matrix.specs.Matrix.{flatOf}
 use Rattle.pair.specs.declared.Answer.{Answer}
 use Rattle.pair.specs.Answer.{given, pairOf, reportWords}
-use Rattle.pair.proofs.Laws.{Answered, number-means, fields-are, tile-means, back-tile-means, pieces-between, back-pieces-between, relation-below, back-relation-below}
+use Rattle.pair.specs.Meaning.{Answered}
+use Rattle.pair.proofs.Laws.{number-means, fields-are, tile-means, back-tile-means, pieces-between, back-pieces-between, relation-below, back-relation-below}
 use Rattle.pair.proofs.Refusals.{answered-named}
-use Rattle.pair.proofs.Cells.{cellOf, rows-between, columns-between, cell-most}
+use Rattle.pair.proofs.Cells.{rows-between, columns-between, cell-most}
 use Rattle.pair.proofs.Directions.{directions-below}
 use Rattle.endian.specs.Bytes.{u16At, u16Bytes}
 use Rattle.endian.proofs.Placed.{length-same}
 use Rattle.card.specs.Reading.{parcelCount, regionAt}
 use Rattle.card.specs.CardNumber.{cardNumber}
-use Rattle.card.specs.Good.{GoodCard}
+use Rattle.card.specs.Good.{GoodCard, CardsOwn}
 use Rattle.card.specs.Pairs.{pairIn}
 use Rattle.card.proofs.Good.{good-means}
-use Rattle.card.proofs.Numbers.{CardsOwn, card-number-either, not-good-means}
+use Rattle.card.proofs.Numbers.{card-number-either, not-good-means}
+use Rattle.host.specs.Meaning.{Reported, ReportHas}
 use Rattle.host.specs.Report.{reportNumbers, reportLength, reportBytes, hostNumber, hostReport}
 use Rattle.host.proofs.Report.{report-short, report-card, report-parcels, report-done}
 use Rattle.host.proofs.Words.{word-read, Small, small-none, small-more, small-append}
@@ -55,17 +56,6 @@ use Rattle.host.proofs.Words.{word-read, Small, small-none, small-more,
 own-some : (n m : ℕ) → CardsOwn n → n ≡ m → (m ≢ 0) × (m ≢ 10) × (m ≢ 17)
 own-some n m (inl p) e = (λ q. omega (arith, p .0), λ q. omega (arith, p .1), λ q. omega (arith, p .1))
 own-some n m (inr p) e = (λ q. omega (arith, p .0), λ q. omega (arith, p .0), λ q. omega (arith, p .1))
-
--- ---- the numbers of a report after the first three, with the byte at which each begins
-pub record ReportHas (b : List ℕ) (a : Answer) : Type 0 where
-  pub first : u16At b 6 ≡ a .first
-  pub second : u16At b 8 ≡ a .second
-  pub rows : u16At b 10 ≡ a .rows
-  pub columns : u16At b 12 ≡ a .columns
-  pub cells : (i j : ℕ) → i < 3 → j < 3 → u16At b (14 + 2 * (3 * i + j)) ≡ cellOf a i j
-  pub directions : u16At b 32 ≡ a .directions
-  pub first-pieces : u16At b 34 ≡ a .«first_pieces»
-  pub second-pieces : u16At b 36 ≡ a .«second_pieces»
 
 module _ (a : Answer) (nine : length (a .cells) ≡ 9) where
   abbrev last : List ℕ
@@ -92,12 +82,7 @@ module _ (card report : List ℕ) where
   abbrev answer : Answer
   answer = pairOf first second
 
-  pub record Reported : Type 0 where
-    pub room : reportLength ≤ length report
-    pub good : GoodCard card
-    pub two : parcelCount card ≡ 2
-
-  pub answered : Reported → Answered first second
+  pub answered : Reported card report → Answered first second
   answered r = record { first-kept = r .good .parcels-keep 0 (omega (arith, r .two)); second-kept = r .good .parcels-keep 1 (omega (arith, r .two)) }
 
   -- ---- the number, by cases
@@ -105,9 +90,9 @@ module _ (card report : List ℕ) where
     short : length report < reportLength → Says 10
     own : reportLength ≤ length report → CardsOwn (cardNumber card) → Says (cardNumber card)
     other : reportLength ≤ length report → GoodCard card → parcelCount card ≢ 2 → Says 17
-    done : Reported → Says 0
+    done : Reported card report → Says 0
 
-  accepted : Reported → 0 ≡ hostNumber card report
+  accepted : Reported card report → 0 ≡ hostNumber card report
   unfolding pairIn
   accepted r = report-done card report (r .room) (good-means card .1 (r .good)) (r .two) {a = answer} refl (number-means first second .1 (answered r)) refl .0
 
@@ -124,14 +109,14 @@ module _ (card report : List ℕ) where
       counted : reportLength ≤ length report → cardNumber card ≡ 0 → Says (hostNumber card report)
       counted room z =
           elim (ℕ-discrete (parcelCount card) 2) [
-            | yes e ↦ (let r : Reported = record { room = room; good = good-means card .0 z; two = e } in subst Says (accepted r) (done r))
+            | yes e ↦ (let r : Reported card report = record { room = room; good = good-means card .0 z; two = e } in subst Says (accepted r) (done r))
             | no e ↦ subst Says (report-parcels card report room z e .0) (other room (good-means card .0 z) e)
           ]
 
-  pub number-none-means : (hostNumber card report ≡ 0) ↔ Reported
+  pub number-none-means : (hostNumber card report ≡ 0) ↔ Reported card report
   number-none-means = go says
     where
-      go : {n : ℕ} → Says n → (n ≡ 0) ↔ Reported
+      go : {n : ℕ} → Says n → (n ≡ 0) ↔ Reported card report
       go (short l) = (λ e. absurd (omega arith), λ r. absurd (omega (arith, r .room)))
       go (own room o) = (λ e. absurd (own-some _ _ o e .0 refl), λ r. absurd (not-good-means card .0 o (r .good)))
       go (other room g e) = (λ z. absurd (omega arith), λ r. absurd (e (r .two)))
@@ -184,14 +169,14 @@ module _ (card report : List ℕ) where
   bytes-long : length (reportBytes answer) ≡ reportLength
   bytes-long = length-same (λ k. u16Bytes (getD (reportWords answer) k 0)) 2 (λ k. refl) reportNumbers
 
-  report-is : Reported → hostReport card report ≡ reportBytes answer ++ drop reportLength report
+  report-is : Reported card report → hostReport card report ≡ reportBytes answer ++ drop reportLength report
   unfolding hostReport pairIn
   report-is r = rw (eq-eqb (hostNumber card report) 0 (sym (accepted r))) refl
 
   pub report-length : length (hostReport card report) ≡ length report
   report-length = elim (ℕ-discrete (hostNumber card report) 0) [ yes e ↦ whole (number-none-means .0 e) | no e ↦ ap length (report-kept e) ]
     where
-      whole : Reported → length (hostReport card report) ≡ length report
+      whole : Reported card report → length (hostReport card report) ≡ length report
       whole r =
           let e = ap length (report-is r) ∙ length-append (reportBytes answer) (drop reportLength report) in
           omega (arith, e, bytes-long, length-drop reportLength report, r .room)
@@ -203,7 +188,7 @@ module _ (card report : List ℕ) where
         | no e ↦ ap (λ (l : List ℕ). getD l i 0) (report-kept e)
       ]
     where
-      whole : Reported → getD (hostReport card report) i 0 ≡ getD report i 0
+      whole : Reported card report → getD (hostReport card report) i 0 ≡ getD report i 0
       whole r =
           let there : i ≡ length (reportBytes answer) + (i - reportLength) = omega (arith, bytes-long) in
           let back : reportLength + (i - reportLength) ≡ i = omega arith in
@@ -213,7 +198,7 @@ module _ (card report : List ℕ) where
           ∙ getD-drop reportLength report (i - reportLength) 0
           ∙ ap (λ (n : ℕ). getD report n 0) back
 
-  module _ (r : Reported) where
+  module _ (r : Reported card report) where
     cells-long : length (answer .cells) ≡ 9
     unfolding given flatOf
     cells-long = ap (λ (a : Answer). length (a .cells)) (fields-are first second (answered r)) ∙ length-tab _ 9

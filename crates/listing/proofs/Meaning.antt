@@ -35,17 +35,18 @@ use Rattle.outline.proofs.Ends.{start-le}
 use Rattle.relation.specs.Relation.{RegionBox, RegionHas, RegionPieces}
 use Rattle.pair.specs.declared.Answer.{Answer}
 use Rattle.pair.specs.Answer.{given, pairOf}
-use Rattle.pair.proofs.Laws.{Answered, fields-are, some-tile, tile-means, pieces-between, relation-below}
+use Rattle.pair.specs.Meaning.{Answered, Lies}
+use Rattle.pair.proofs.Laws.{fields-are, some-tile, tile-means, pieces-between, relation-below}
 use Rattle.pair.proofs.Laws as pair
-use Rattle.pair.proofs.Compass.{Lies, direction-means}
+use Rattle.pair.proofs.Compass.{direction-means}
 use Rattle.pair.proofs.Somewhere.{direction-some}
 use Rattle.endian.specs.Bytes.{joined}
 use Rattle.card.specs.Reading.{parcelCount, slotAt, regionAt}
 use Rattle.card.specs.CardNumber.{cardNumber}
-use Rattle.card.specs.Good.{GoodCard}
+use Rattle.card.specs.Good.{GoodCard, CardsOwn}
 use Rattle.card.specs.Pairs.{pairIn}
 use Rattle.card.proofs.Good.{good-means}
-use Rattle.card.proofs.Numbers.{CardsOwn, not-good-means}
+use Rattle.card.proofs.Numbers.{not-good-means}
 use Rattle.io.specs.Digits.{glyph, digits}
 use Rattle.listing.specs.Names.{nameOf, namesOf, B, O}
 use Rattle.listing.specs.Listing.{space, lineFeed, decimal, parcelsWord, refusedWord, pairLine, lineOf, listing}
@@ -129,12 +130,12 @@ module _ (card : List ℕ) (good : GoodCard card) (j k : ℕ) (hj : j < parcelCo
   tiles-rise = set-bits-rise (answer .first) 9
 
   pub directions-mean : (L M : Lines) (one : RegionBox first L) (two : RegionBox second M) (t : ℕ)
-      → Among t directions ↔ ((t < 9) × Lies first second answered L M one two t)
+      → Among t directions ↔ ((t < 9) × Lies first second L M t)
   directions-mean L M one two =
-      nine-mean (answer .directions) (Lies first second answered L M one two) (direction-means first second answered L M one two)
+      nine-mean (answer .directions) (Lies first second L M) (direction-means first second answered L M one two)
 
   pub direction-printed : (L M : Lines) (one : RegionBox first L) (two : RegionBox second M) (t : ℕ) → t < 9
-      → StandsIn (nameOf O t) (between (map (nameOf O) directions)) ↔ Lies first second answered L M one two t
+      → StandsIn (nameOf O t) (between (map (nameOf O) directions)) ↔ Lies first second L M t
   direction-printed L M one two t h =
       rw (← names-are O (answer .directions)) (iff-join (direction-named (answer .directions) t h) (direction-means first second answered L M one two t h))
 

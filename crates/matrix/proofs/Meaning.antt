@@ -3,9 +3,8 @@
 --   cell-means         row i and column j are within the size exactly when there is such a cell
 --   value-first        a cell's value is 1 or 3 exactly when it holds the first region
 --   value-second       and 2 or 3 exactly when it holds the second
---   HoldsWhere L M Has p q u v    the cell between p, q and u, v lies inside the box L, and the tile of the box M around it is one that `Has` tells of
 --   holds-where        a cell holds a region exactly there, where the region's relation is the set that `Has` tells of
---   threeRows l        nine numbers as three rows of three;  rows-at  the value in row i and column j is number 3 i + j
+--   rows-at            of nine numbers as three rows, the value in row i and column j is number 3 i + j
 --   flat-at            of the nine values of a matrix by row, number 3 i + j is the one in row i and column j
 --   flat-rows          and their three rows are the matrix again
 use mathlib.Core.Path.{_≡_, refl, _∙_, ap}
@@ -16,7 +15,6 @@ use Prim.Native.Nat.{ℕ, _+_, _*_, _/_, _%_, _<_}
 use native.Mathlib.Omega.{arith}
 use lib.ListN.{getD}
 use lib.IntN.{ℤ}
-use lib.Signed.{_≤ℤ_}
 use Rattle.plane.specs.Points.{Lines}
 use Rattle.plane.specs.Placed.{LinesInRange, boxOf, Upright}
 use Rattle.plane.specs.Lists.{tabFrom, tab}
@@ -24,10 +22,9 @@ use Rattle.plane.specs.TileSet.{one-if, bit}
 use Rattle.plane.specs.declared.Box.{Box}
 use Rattle.plane.proofs.Logic.{never, iff-join}
 use Rattle.plane.proofs.Lists.{getD-tab}
-use Rattle.plane.specs.Tiles.{columnOf, rowOf}
 use Rattle.matrix.specs.Grid.{Strips, Cell}
-use Rattle.matrix.specs.Holding.{RangeContains, Holds, columnCount, rowCount}
-use Rattle.matrix.specs.Matrix.{cellValue, matrixOf, flatOf}
+use Rattle.matrix.specs.Holding.{HoldsWhere, Holds, columnCount, rowCount}
+use Rattle.matrix.specs.Matrix.{cellValue, matrixOf, flatOf, threeRows}
 use Rattle.matrix.specs.Directions.{valueAt}
 use Rattle.matrix.proofs.Lines.{lines-means}
 use Rattle.matrix.proofs.Grid.{strips-means}
@@ -76,17 +73,6 @@ module _ (L M : Lines) (hL : LinesInRange L) (hM : LinesInRange M) where
         rw e (iff-join (second-value x y) second)
 
 -- ---- what a cell holds, by the tiles that a region has
-pub record HoldsWhere (L M : Lines) (Has : ℕ → Type 0) (p q u v : ℤ) : Type 0 where
-  pub west : L .west ≤ℤ p
-  pub east : q ≤ℤ L .east
-  pub south : L .south ≤ℤ u
-  pub north : v ≤ℤ L .north
-  pub tile : ℕ
-  pub is-tile : tile < 9
-  pub in-column : RangeContains (columnOf tile) (M .west) (M .east) p q
-  pub in-row : RangeContains (rowOf tile) (M .south) (M .north) u v
-  pub there : Has tile
-
 pub holds-where : (L M : Lines) (relation : ℕ) (Has : ℕ → Type 0) → ((t : ℕ) → t < 9 → (bit relation t ≡ 1) ↔ Has t)
     → (p q u v : ℤ) → Holds L M relation p q u v ↔ HoldsWhere L M Has p q u v
 holds-where L M relation Has tells p q u v = (
@@ -115,9 +101,6 @@ holds-where L M relation Has tells p q u v = (
 )
 
 -- ---- the nine values by row
-abbrev pub threeRows : List ℕ → List (List ℕ)
-threeRows l = tab (λ i. tab (λ j. getD l (3 * i + j) 0) 3) 3
-
 pub rows-at : (l : List ℕ) (i j : ℕ) → i < 3 → j < 3 → valueAt (threeRows l) i j ≡ getD l (3 * i + j) 0
 rows-at l i j hi hj =
     ap (λ (k : List ℕ). getD k j 0) (getD-tab (λ (i : ℕ). tab (λ (j : ℕ). getD l (3 * i + j) 0) 3) [] 3 i hi)

@@ -1,7 +1,8 @@
 -- Document 01: "A cell holds region a exactly when it lies inside a's box and the tile of b's box that contains it is in a's relation to b;
 -- likewise for b."
 --   RangeContains c lo hi p q     range c of the lines lo and hi contains everything between p and q
---   Holds L M relation p q u v    the cell between p, q and u, v holds the region whose box is L and whose relation to the box M is given
+--   HoldsWhere L M Has p q u v    the cell between p, q and u, v lies inside the box L, and the tile of the box M around it is one that `Has` tells of
+--   Holds L M relation p q u v    so it holds the region whose box is L and whose relation to the box M is given
 --   Rectangle                     a cell in places
 --   linesOf, columnCount, rowCount, cellAt     the grid in places: the distinct lines in rising order, how many strips they make, and the cell in
 --                                 row i and column j
@@ -26,7 +27,7 @@ RangeContains zero lo hi p q = q ≤ℤ lo
 RangeContains (suc zero) lo hi p q = (lo ≤ℤ p) × (q ≤ℤ hi)
 RangeContains (suc (suc c)) lo hi p q = hi ≤ℤ p
 
-pub record Holds (L M : Lines) (relation : ℕ) (p q u v : ℤ) : Type 0 where
+pub record HoldsWhere (L M : Lines) (Has : ℕ → Type 0) (p q u v : ℤ) : Type 0 where
   pub west : L .west ≤ℤ p
   pub east : q ≤ℤ L .east
   pub south : L .south ≤ℤ u
@@ -35,7 +36,10 @@ pub record Holds (L M : Lines) (relation : ℕ) (p q u v : ℤ) : Type 0 where
   pub is-tile : tile < 9
   pub in-column : RangeContains (columnOf tile) (M .west) (M .east) p q
   pub in-row : RangeContains (rowOf tile) (M .south) (M .north) u v
-  pub there : bit relation tile ≡ 1
+  pub there : Has tile
+
+abbrev pub Holds : (L M : Lines) (relation : ℕ) (p q u v : ℤ) → Type 0
+Holds L M relation p q u v = HoldsWhere L M (λ t. bit relation t ≡ 1) p q u v
 
 -- v into a rising list, once
 unfoldable pub insert : ℕ → List ℕ → List ℕ

@@ -1,7 +1,7 @@
 -- Document 01: "Value: 1 for a, plus 2 for b. Cells past the size are 0. The matrix is a three by three array of small numbers."
 --   cellValue a b r s i j    the value in row i from the north and column j from the west; r is the relation of the region with
 --                            box a to the other, s that of the other to it
---   matrixOf a b r s         the array, a list of three rows;  flatOf  the same nine numbers by row
+--   matrixOf a b r s         the array, a list of three rows;  flatOf  the same nine numbers by row;  threeRows  nine numbers as three rows
 --   exchanged v              1 and 2 exchanged
 use mathlib.Core.Bool.{_&&_}
 use mathlib.Core.List.{List, []}
@@ -23,6 +23,9 @@ matrixOf a b r s = tab (λ i. tab (λ j. cellValue a b r s i j) 3) 3
 
 unfoldable pub flatOf : List (List ℕ) → List ℕ
 flatOf m = tab (λ k. getD (getD m (k / 3) []) (k % 3) 0) 9
+
+abbrev pub threeRows : List ℕ → List (List ℕ)
+threeRows l = tab (λ i. tab (λ j. getD l (3 * i + j) 0) 3) 3
 
 abbrev pub exchanged : ℕ → ℕ
 exchanged v = pick (eqb v 1) 2 (pick (eqb v 2) 1 v)

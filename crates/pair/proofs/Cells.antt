@@ -1,5 +1,4 @@
 -- Rows, columns and cells of the pair answer of two accepted regions.
---   cellOf a i j         the value in row i from the north and column j from the west: number 3 i + j of the answer's cells
 --   rows-between, columns-between      there are 1 to 3 rows and 1 to 3 columns
 --   cell-past            a cell past the size is 0;  cell-most  no value is above 3
 -- Over the lines L and M of the two regions' boxes:
@@ -11,9 +10,8 @@
 --   cell-second, cell-second-has       and 2 or 3 exactly when this is so of the second region
 use mathlib.Core.Path.{_≡_, _∙_}
 use mathlib.Core.Logic.{_↔_, _⊎_}
-use Prim.Native.Nat.{ℕ, _+_, _*_, _≤_, _<_}
+use Prim.Native.Nat.{ℕ, _≤_, _<_}
 use native.Mathlib.Omega.{arith}
-use lib.ListN.{getD}
 use lib.IntN.{ℤ}
 use Rattle.plane.specs.Points.{Lines}
 use Rattle.plane.specs.Placed.{LinesInRange, Upright, boxOf}
@@ -23,17 +21,15 @@ use Rattle.relation.specs.Relation.{RegionBox, RegionHas, regionBox}
 use Rattle.relation.proofs.Regions.{lines-in-range, region-box-is, region-upright}
 use Rattle.relation.proofs.Spread.{wide, high}
 use Rattle.matrix.specs.Grid.{Strips, Cell}
-use Rattle.matrix.specs.Holding.{Holds}
+use Rattle.matrix.specs.Holding.{HoldsWhere, Holds}
 use Rattle.matrix.specs.Matrix.{cellValue}
 use Rattle.matrix.proofs.Matrix.{rows-size, columns-size, value-at, value-outside, value-lt}
-use Rattle.matrix.proofs.Meaning.{row-count-means, column-count-means, value-first, value-second, HoldsWhere, holds-where, flat-at}
+use Rattle.matrix.proofs.Meaning.{row-count-means, column-count-means, value-first, value-second, holds-where, flat-at}
 use Rattle.matrix.proofs.Meaning as matrix
 use Rattle.pair.specs.declared.Answer.{Answer}
 use Rattle.pair.specs.Answer.{given, pairOf}
-use Rattle.pair.proofs.Laws.{Answered, four, fields-are, tile-means, back-tile-means}
-
-abbrev pub cellOf : Answer → (i j : ℕ) → ℕ
-cellOf a i j = getD (a .cells) (3 * i + j) 0
+use Rattle.pair.specs.Meaning.{Answered, cellFrom}
+use Rattle.pair.proofs.Laws.{four, fields-are, tile-means, back-tile-means}
 
 module _ (first second : Region) (a : Answered first second) where
   abbrev answer : Answer
@@ -47,16 +43,16 @@ module _ (first second : Region) (a : Answered first second) where
   unfolding given
   columns-between = rw (fields-are first second a) (columns-size (regionBox first) (regionBox second) (wide (a .first-kept)))
 
-  cell-is : (i j : ℕ) → i < 3 → j < 3 → cellOf answer i j ≡ cellValue (regionBox first) (regionBox second) (answer .first) (answer .second) i j
+  cell-is : (i j : ℕ) → i < 3 → j < 3 → cellFrom answer i j ≡ cellValue (regionBox first) (regionBox second) (answer .first) (answer .second) i j
   unfolding given
   cell-is i j hi hj = rw (fields-are first second a) (flat-at _ i j hi hj ∙ value-at (regionBox first) (regionBox second) _ _ i j hi hj)
 
-  pub cell-past : (i j : ℕ) → i < 3 → j < 3 → (answer .rows ≤ i) ⊎ (answer .columns ≤ j) → cellOf answer i j ≡ 0
+  pub cell-past : (i j : ℕ) → i < 3 → j < 3 → (answer .rows ≤ i) ⊎ (answer .columns ≤ j) → cellFrom answer i j ≡ 0
   unfolding given
   cell-past i j hi hj past =
       cell-is i j hi hj ∙ value-outside (regionBox first) (regionBox second) (answer .first) (answer .second) i j (rw (fields-are first second a) at past)
 
-  pub cell-most : (i j : ℕ) → i < 3 → j < 3 → cellOf answer i j ≤ 3
+  pub cell-most : (i j : ℕ) → i < 3 → j < 3 → cellFrom answer i j ≤ 3
   cell-most i j hi hj = omega (arith, cell-is i j hi hj, value-lt (regionBox first) (regionBox second) (answer .first) (answer .second) i j)
 
   module _ (L M : Lines) (one : RegionBox first L) (two : RegionBox second M) where
@@ -86,21 +82,21 @@ module _ (first second : Region) (a : Answered first second) where
     cell-means i j = rw (fields-are first second a, first-box, second-box) (matrix.cell-means L M (range .0) (range .1) i j)
 
     module _ (i j : ℕ) (p q u v : ℤ) (c : Cell L M i j p q u v) where
-      value : cellOf answer i j ≡ cellValue (boxOf L) (boxOf M) (answer .first) (answer .second) i j
+      value : cellFrom answer i j ≡ cellValue (boxOf L) (boxOf M) (answer .first) (answer .second) i j
       value =
           let within = cell-means i j .1 (p, q, u, v, c) in
           cell-is i j (omega (arith, within .0, rows-between .1)) (omega (arith, within .1, columns-between .1)) ∙ rw (first-box, second-box)
 
-      pub cell-first : ((cellOf answer i j ≡ 1) ⊎ (cellOf answer i j ≡ 3)) ↔ Holds L M (answer .first) p q u v
+      pub cell-first : ((cellFrom answer i j ≡ 1) ⊎ (cellFrom answer i j ≡ 3)) ↔ Holds L M (answer .first) p q u v
       cell-first =
           rw value (value-first L M (range .0) (range .1) (upright .0) (upright .1) (answer .first) (answer .second) i j p q u v c)
 
-      pub cell-second : ((cellOf answer i j ≡ 2) ⊎ (cellOf answer i j ≡ 3)) ↔ Holds M L (answer .second) p q u v
+      pub cell-second : ((cellFrom answer i j ≡ 2) ⊎ (cellFrom answer i j ≡ 3)) ↔ Holds M L (answer .second) p q u v
       cell-second =
           rw value (value-second L M (range .0) (range .1) (upright .0) (upright .1) (answer .first) (answer .second) i j p q u v c)
 
-      pub cell-first-has : ((cellOf answer i j ≡ 1) ⊎ (cellOf answer i j ≡ 3)) ↔ HoldsWhere L M (RegionHas M first) p q u v
+      pub cell-first-has : ((cellFrom answer i j ≡ 1) ⊎ (cellFrom answer i j ≡ 3)) ↔ HoldsWhere L M (RegionHas M first) p q u v
       cell-first-has = iff-join cell-first (holds-where L M (answer .first) (RegionHas M first) (tile-means first second a M two) p q u v)
 
-      pub cell-second-has : ((cellOf answer i j ≡ 2) ⊎ (cellOf answer i j ≡ 3)) ↔ HoldsWhere M L (RegionHas L second) p q u v
+      pub cell-second-has : ((cellFrom answer i j ≡ 2) ⊎ (cellFrom answer i j ≡ 3)) ↔ HoldsWhere M L (RegionHas L second) p q u v
       cell-second-has = iff-join cell-second (holds-where M L (answer .second) (RegionHas L second) (back-tile-means first second a L one) p q u v)

@@ -1,13 +1,11 @@
 -- The directions of the pair answer of two accepted regions by cells of the map, over the lines L and M of the two regions' boxes.
---   FirstAt i j         the grid has a cell in row i and column j, it lies inside the first region's box, and the first region has the tile of the
---                       second's box around it;  SecondAt i j  the same of the second region
---   first-at, second-at     the answer's value there holds the region exactly when that is so
---   Lies k              some such cell of the first region lies in direction k from some such cell of the second
---   direction-means     direction k is in the answer exactly when that is so
+--   first-at, second-at     the answer's value in row i and column j holds a region exactly when the grid has such a cell and the region has the tile
+--                       of the other's box around it (`FirstAt`, `SecondAt`)
+--   direction-means     direction k is in the answer exactly when some such cell of the first region lies there from one of the second (`Lies`)
 use mathlib.Core.Path.{_≡_, sym, _∙_}
 use mathlib.Core.Logic.{_↔_, _⊎_, _≢_, inl, inr, ⊎-elim}
 use mathlib.Core.List.{List}
-use Prim.Native.Nat.{ℕ, _/_, _%_, _≤_, _<_}
+use Prim.Native.Nat.{ℕ, _≤_, _<_}
 use native.Mathlib.Omega.{arith}
 use native.Mathlib.Decide.{decLt}
 use lib.IntN.{ℤ}
@@ -17,12 +15,14 @@ use Rattle.plane.proofs.Logic.{iff-join}
 use Rattle.outline.specs.Region.{Region}
 use Rattle.relation.specs.Relation.{RegionBox, RegionHas}
 use Rattle.matrix.specs.Grid.{Cell}
-use Rattle.matrix.specs.Directions.{valueAt, HoldsFirst, HoldsSecond, Toward, Direction}
-use Rattle.matrix.proofs.Meaning.{HoldsWhere, threeRows, rows-at}
+use Rattle.matrix.specs.Holding.{HoldsWhere}
+use Rattle.matrix.specs.Matrix.{threeRows}
+use Rattle.matrix.specs.Directions.{valueAt, HoldsFirst, HoldsSecond, Direction}
+use Rattle.matrix.proofs.Meaning.{rows-at}
 use Rattle.pair.specs.declared.Answer.{Answer}
 use Rattle.pair.specs.Answer.{pairOf}
-use Rattle.pair.proofs.Laws.{Answered}
-use Rattle.pair.proofs.Cells.{cellOf, rows-between, columns-between, cell-past, cell-means, cell-first-has, cell-second-has}
+use Rattle.pair.specs.Meaning.{Answered, cellFrom, FirstAt, SecondAt, Lies}
+use Rattle.pair.proofs.Cells.{rows-between, columns-between, cell-past, cell-means, cell-first-has, cell-second-has}
 use Rattle.pair.proofs.Directions.{directions-mean}
 
 module _ (first second : Region) (a : Answered first second) (L M : Lines) (one : RegionBox first L) (two : RegionBox second M) where
@@ -32,35 +32,29 @@ module _ (first second : Region) (a : Answered first second) (L M : Lines) (one 
   abbrev values : List (List ℕ)
   values = threeRows (answer .cells)
 
-  abbrev pub FirstAt : (i j : ℕ) → Type 0
-  FirstAt i j = (p : ℤ) × (q : ℤ) × (u : ℤ) × (v : ℤ) × Cell L M i j p q u v × HoldsWhere L M (RegionHas M first) p q u v
-
-  abbrev pub SecondAt : (i j : ℕ) → Type 0
-  SecondAt i j = (p : ℤ) × (q : ℤ) × (u : ℤ) × (v : ℤ) × Cell L M i j p q u v × HoldsWhere M L (RegionHas L second) p q u v
-
   -- a cell of the grid is one of the nine, and a value that is not 0 stands in one
   of-nine : (i j : ℕ) → (i < answer .rows) × (j < answer .columns) → (i < 3) × (j < 3)
   of-nine i j h = (omega (arith, h .0, rows-between first second a .1), omega (arith, h .1, columns-between first second a .1))
 
-  within : (i j : ℕ) → (i < 3) × (j < 3) → cellOf answer i j ≢ 0 → (i < answer .rows) × (j < answer .columns)
+  within : (i j : ℕ) → (i < 3) × (j < 3) → cellFrom answer i j ≢ 0 → (i < answer .rows) × (j < answer .columns)
   within i j h some =
       elim (decLt i (answer .rows)) [
         | yes p ↦ elim (decLt j (answer .columns)) [ yes q ↦ (p, q) | no q ↦ absurd (some (past (inr (omega arith)))) ]
         | no p ↦ absurd (some (past (inl (omega arith))))
       ]
     where
-      past : (answer .rows ≤ i) ⊎ (answer .columns ≤ j) → cellOf answer i j ≡ 0
+      past : (answer .rows ≤ i) ⊎ (answer .columns ≤ j) → cellFrom answer i j ≡ 0
       past = cell-past first second a i j (h .0) (h .1)
 
   module _ (i j : ℕ) where
     -- a value that is n or 3, by what it says of a cell of the grid
     value-at-cell : (n : ℕ) → n ≢ 0 → (Held : (p q u v : ℤ) → Type 0)
-        → ((p q u v : ℤ) → Cell L M i j p q u v → ((cellOf answer i j ≡ n) ⊎ (cellOf answer i j ≡ 3)) ↔ Held p q u v)
+        → ((p q u v : ℤ) → Cell L M i j p q u v → ((cellFrom answer i j ≡ n) ⊎ (cellFrom answer i j ≡ 3)) ↔ Held p q u v)
         → ((i < 3) × (j < 3) × ((valueAt values i j ≡ n) ⊎ (valueAt values i j ≡ 3))) ↔ ((p : ℤ) × (q : ℤ) × (u : ℤ) × (v : ℤ) × Cell L M i j p q u v × Held p q u v)
     value-at-cell n some Held says = (
       λ h.
           let e = rw (rows-at (answer .cells) i j (h .0) (h .1)) at (h .2) in
-          let filled : cellOf answer i j ≢ 0 = λ z. ⊎-elim (λ d. some (sym d ∙ z)) (λ d. omega arith) e in
+          let filled : cellFrom answer i j ≢ 0 = λ z. ⊎-elim (λ d. some (sym d ∙ z)) (λ d. omega arith) e in
           let (p, q, u, v, c) = cell-means first second a L M one two i j .0 (within i j (h .0, h .1) filled) in
           (p, q, u, v, c, says p q u v c .0 e),
       λ x.
@@ -68,26 +62,16 @@ module _ (first second : Region) (a : Answered first second) (L M : Lines) (one 
           (n .0, n .1, rw (rows-at (answer .cells) i j (n .0) (n .1)) (says (x .0) (x .1) (x .2) (x .3) (x .4) .1 (x .5))),
     )
 
-    pub first-at : ((i < 3) × (j < 3) × HoldsFirst values i j) ↔ FirstAt i j
+    pub first-at : ((i < 3) × (j < 3) × HoldsFirst values i j) ↔ FirstAt first L M i j
     first-at = value-at-cell 1 (λ e. omega arith) (HoldsWhere L M (RegionHas M first)) (cell-first-has first second a L M one two i j)
 
-    pub second-at : ((i < 3) × (j < 3) × HoldsSecond values i j) ↔ SecondAt i j
+    pub second-at : ((i < 3) × (j < 3) × HoldsSecond values i j) ↔ SecondAt second L M i j
     second-at = value-at-cell 2 (λ e. omega arith) (HoldsWhere M L (RegionHas L second)) (cell-second-has first second a L M one two i j)
 
-  pub record Lies (k : ℕ) : Type 0 where
-    pub i : ℕ
-    pub j : ℕ
-    pub i' : ℕ
-    pub j' : ℕ
-    pub holds-first : FirstAt i j
-    pub holds-second : SecondAt i' j'
-    pub rows : Toward (k / 3) i i'
-    pub columns : Toward (k % 3) j j'
-
-  pub direction-means : (k : ℕ) → k < 9 → (bit (answer .directions) k ≡ 1) ↔ Lies k
+  pub direction-means : (k : ℕ) → k < 9 → (bit (answer .directions) k ≡ 1) ↔ Lies first second L M k
   direction-means k h = iff-join (directions-mean first second k h) (there, back)
     where
-      there : Direction values k → Lies k
+      there : Direction values k → Lies first second L M k
       there d =
           record {
             i = d .i;
@@ -100,7 +84,7 @@ module _ (first second : Region) (a : Answered first second) (L M : Lines) (one 
             columns = d .columns;
           }
 
-      back : Lies k → Direction values k
+      back : Lies first second L M k → Direction values k
       back d =
           let f = first-at (d .i) (d .j) .1 (d .holds-first) in
           let s = second-at (d .i') (d .j') .1 (d .holds-second) in

@@ -17,12 +17,14 @@ use Rattle.plane.proofs.Logic.{iff-join, iff-turn, iff-not, both, eq-means, not
 use Rattle.plane.proofs.TileSet.{set-lt, set-means, set-same}
 use Rattle.outline.specs.Region.{Region}
 use Rattle.relation.specs.Relation.{regionBox, relationOf}
+use Rattle.matrix.specs.Matrix.{threeRows}
 use Rattle.matrix.specs.Directions.{Direction, holdsFirst, directed, directionsOf, opposite}
-use Rattle.matrix.proofs.Meaning.{threeRows, flat-rows}
+use Rattle.matrix.proofs.Meaning.{flat-rows}
 use Rattle.matrix.proofs.Directions as matrix
 use Rattle.pair.specs.Answer.{given, pairOf, aroundOf}
-use Rattle.pair.proofs.Laws.{Answered, fields-are}
-use Rattle.pair.proofs.Refusals.{RefusedPair, refused-means, answered-or-refused}
+use Rattle.pair.specs.Meaning.{Answered, RefusedPair}
+use Rattle.pair.proofs.Laws.{fields-are}
+use Rattle.pair.proofs.Refusals.{refused-means, answered-or-refused}
 
 module _ (first second : Region) where
   pub directions-are : pairOf first second .directions ≡ directionsOf (threeRows (pairOf first second .cells))

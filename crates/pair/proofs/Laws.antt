@@ -18,7 +18,7 @@ use Rattle.plane.specs.TileSet.{bit}
 use Rattle.outline.specs.declared.Checked.{Checked}
 use Rattle.outline.specs.declared.Checked.the-variants.{Accepted, Refused}
 use Rattle.outline.specs.Region.{Region, lastEnd}
-use Rattle.outline.specs.Rules.{Keeps, KeepsRules}
+use Rattle.outline.specs.Rules.{Keeps}
 use Rattle.outline.specs.Check.{checkOf}
 use Rattle.outline.proofs.Keeps.{keeps-fewer}
 use Rattle.outline.proofs.Check.{accepted-means, refused-means}
@@ -28,16 +28,13 @@ use Rattle.relation.proofs.Relation.{relation-tile, pieces-count, region-pieces
 use Rattle.relation.proofs.Never.{relation-some}
 use Rattle.pair.specs.declared.Answer.{Answer}
 use Rattle.pair.specs.Answer.{orRefused, given, answerFor, answerOf, pairOf}
+use Rattle.pair.specs.Meaning.{Answered}
 
 module _ (first second : Region) where
-  pub record Answered : Type 0 where
-    pub first-kept : KeepsRules first
-    pub second-kept : KeepsRules second
-
   abbrev whole : Answer
   whole = given (regionBox first) (regionBox second) (regionSeen (regionBox second) first) (regionSeen (regionBox first) second)
 
-  module _ (a : Answered) where
+  module _ (a : Answered first second) where
     pub four : Keeps 4 first × Keeps 4 second
     four = (keeps-fewer (omega arith) (a .first-kept), keeps-fewer (omega arith) (a .second-kept))
 
@@ -94,18 +91,18 @@ module _ (first second : Region) where
   refused-number R zero r e q = refused-means R zero r .0 e .broken
   refused-number R (suc n) r e q = omega arith
 
-  number-there : pairOf first second .number ≡ 0 → Answered
+  number-there : pairOf first second .number ≡ 0 → Answered first second
   unfolding pairOf
   number-there h = one (checkOf first) refl h
     where
-      two : checkOf first ≡ Accepted → (c : Checked) → checkOf second ≡ c → (orRefused c 2 (answerOf first second)) .number ≡ 0 → Answered
+      two : checkOf first ≡ Accepted → (c : Checked) → checkOf second ≡ c → (orRefused c 2 (answerOf first second)) .number ≡ 0 → Answered first second
       two e Accepted f n = record { first-kept = accepted-means first .0 e; second-kept = accepted-means second .0 f }
       two e (Refused m r) f n = absurd (refused-number second m r f n)
 
-      one : (c : Checked) → checkOf first ≡ c → (orRefused c 1 (orRefused (checkOf second) 2 (answerOf first second))) .number ≡ 0 → Answered
+      one : (c : Checked) → checkOf first ≡ c → (orRefused c 1 (orRefused (checkOf second) 2 (answerOf first second))) .number ≡ 0 → Answered first second
       one Accepted e n = two e (checkOf second) refl n
       one (Refused m r) e n = absurd (refused-number first m r e n)
 
-  pub number-means : (pairOf first second .number ≡ 0) ↔ Answered
+  pub number-means : (pairOf first second .number ≡ 0) ↔ Answered first second
   unfolding given
   number-means = (number-there, λ a. ap (λ (r : Answer). r .number) (fields-are a))

@@ -32,7 +32,8 @@ use Rattle.matrix.proofs.Matrix.{value-is, value-at, rows-size, columns-size, m
 use Rattle.matrix.proofs.Directions.{directions-mean}
 use Rattle.pair.specs.declared.Answer.{Answer}
 use Rattle.pair.specs.Answer.{given, pairOf}
-use Rattle.pair.proofs.Laws.{Answered, fields-are}
+use Rattle.pair.specs.Meaning.{Answered}
+use Rattle.pair.proofs.Laws.{fields-are}
 
 -- ---- one axis: the span from w to e, and the lines lo and hi
 module _ (w e lo hi : ℕ) (some : w < e) (order : lo ≤ hi) where

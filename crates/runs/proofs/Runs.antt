@@ -17,6 +17,7 @@ use Rattle.plane.specs.Folds.{turns}
 use Rattle.plane.proofs.Logic.{never, clash, is-false, and-means}
 use Rattle.outline.specs.Region.{Region, Parcel, nothing, outline}
 use Rattle.outline.specs.Check.{checkOf, numberOf}
+use Rattle.outline.proofs.Check.{accepted-number}
 use Rattle.layout.specs.Sheet.{Sheet, slots}
 use Rattle.layout.specs.Standing.{occupied, instead, ParcelKeeps, StandTogether}
 use Rattle.layout.specs.Layout.{layout, blank}
@@ -24,7 +25,6 @@ use Rattle.layout.proofs.RightLists.{lists-mean}
 use Rattle.layout.proofs.Standing.{stand-fewer, stand-instead, stand-same, layout-lists, layout-same}
 use Rattle.layout.proofs.Blank.{blank-layout}
 use Rattle.sheet.specs.Changes as Changes
-use Rattle.sheet.proofs.Numbers.{accepted-number}
 use Rattle.sheet.proofs.Layouts as Layouts
 use Rattle.card.specs.Reading.{parcelIn}
 use Rattle.card.specs.CardNumber.{cardNumber}

@@ -11,6 +11,7 @@ use borrow.Author.Tests.{eq-eqb, ne-eqb}
 use Rattle.outline.specs.Region.{Region, Parcel, nothing, outline}
 use Rattle.outline.specs.Rules.{KeepsRules}
 use Rattle.outline.specs.Refusals.{numberIf, slot-empty}
+use Rattle.outline.proofs.Check.{accepted-number}
 use Rattle.outline.proofs.OrElse.{number-some}
 use Rattle.layout.specs.Sheet.{slots}
 use Rattle.layout.specs.Standing.{occupied, instead, ParcelKeeps, StandTogether}
@@ -21,7 +22,7 @@ use Rattle.layout.proofs.Refusing.{change-means}
 use Rattle.layout.proofs.Standing.{layout-lists, layout-empty, layout-undamaged, layout-with, layout-same}
 use Rattle.layout.proofs.Blank.{blank-layout}
 use Rattle.sheet.specs.Changes.{putNumber, put, removeNumber, remove, clearNumber, clear}
-use Rattle.sheet.proofs.Numbers.{accepted-number, put-next, put-keeps, put-ready, put-is, put-refused, remove-next, remove-ready, remove-refused, remove-done}
+use Rattle.sheet.proofs.Numbers.{put-next, put-keeps, put-ready, put-is, put-refused, remove-next, remove-ready, remove-refused, remove-done}
 
 module _ (st : ℕ → Parcel) (stand : StandTogether 4 st) where
   -- ---- 11, 8 and 12

@@ -1,24 +1,21 @@
 -- The numbers that a put, a removal and a clearing answer, and the sheet that each leaves.
---   accepted-number       the check of a region answers no number exactly where it keeps every rule
 --   put-first, put-next, remove-first, remove-next    the number in two steps: 11, 8 and 12, then the call's own
 --   put-keeps, put-ready, put-writes, remove-ready    what is known where the call is not refused
 --   put-refused, remove-refused, clear-refused    a refused call leaves the sheet
 --   put-is, put-done, remove-done, clear-done     and what one that is not refused leaves
-use mathlib.Core.Path.{_≡_, refl, sym, ap, _∙_, subst}
-use mathlib.Core.Logic.{_↔_, _≢_}
+use mathlib.Core.Path.{_≡_, sym, ap, _∙_, subst}
+use mathlib.Core.Logic.{_≢_}
 use mathlib.Core.Bool.{Bool, true, false}
 use Prim.Native.Nat.{ℕ}
 use native.Mathlib.Omega.{arith}
 use borrow.Author.Tests.{eq-eqb, ne-eqb}
 use Rattle.outline.specs.Region.{Region, nothing, outline}
-use Rattle.outline.specs.declared.Checked.{Checked}
-use Rattle.outline.specs.declared.Checked.the-variants.{Accepted, Refused}
-use Rattle.outline.specs.Rules.{Breaks, Keeps, KeepsRules}
+use Rattle.outline.specs.Rules.{Keeps, KeepsRules}
 use Rattle.outline.specs.Refusals.{numberIf, slot-empty}
 use Rattle.outline.specs.Check.{checkOf, numberOf}
 use Rattle.outline.proofs.Keeps.{keeps-fewer}
 use Rattle.outline.proofs.OrElse.{or-else-first, or-else-next, or-else-none}
-use Rattle.outline.proofs.Check.{accepted-means, refused-means}
+use Rattle.outline.proofs.Check.{accepted-number}
 use Rattle.layout.specs.Sheet.{Sheet, wrongLists}
 use Rattle.layout.specs.Layout.{blank}
 use Rattle.layout.specs.Slots.{emptyIn}
@@ -27,14 +24,6 @@ use Rattle.layout.specs.Steps.{Ready, parcelOf}
 use Rattle.layout.proofs.Refusing.{change-means}
 use Rattle.layout.proofs.Steps.{outline-parcel}
 use Rattle.sheet.specs.Changes.{putNumber, put, removeNumber, remove, clearNumber, clear}
-
--- ---- rules 1 to 7
-pub accepted-number : (R : Region) → (numberOf (checkOf R) ≡ 0) ↔ KeepsRules R
-accepted-number R = (λ z. go (checkOf R) refl z, λ k. ap numberOf (accepted-means R .1 k))
-  where
-    go : (c : Checked) → checkOf R ≡ c → numberOf c ≡ 0 → KeepsRules R
-    go Accepted e z = accepted-means R .0 e
-    go (Refused n r) e z = absurd (subst (λ (m : ℕ). Breaks R m r) z (refused-means R n r .0 e .broken))
 
 -- ---- a put
 module _ (s : Sheet) (i : ℕ) (R : Region) where
