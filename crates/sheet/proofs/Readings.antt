@@ -15,25 +15,20 @@ use lib.Count.{ones, ones-cat}
 use lib.Dec.{ltb, lit<}
 use lib.ListN.{length}
 use lib.Pow.{mod-pow-add, pow-pos}
-use borrow.Author.Tests.{ltb-false, le-ltb, eq-eqb, ne-eqb}
+use borrow.Author.Tests.{ltb-false, le-ltb, eqb-false, eq-eqb, ne-eqb}
 use Rattle.plane.specs.Folds.{sumTo}
 use Rattle.plane.specs.TileSet.{bit}
 use Rattle.plane.proofs.Logic.{clash, is-false, or-means}
 use Rattle.outline.specs.Refusals.{numberIf, orElse, slot-number, slot-empty, sheet-lists}
 use Rattle.outline.proofs.OrElse.{or-else-none, number-if-none}
 use Rattle.layout.specs.Sheet.{slots, lastSlot, wrongTables}
-use Rattle.layout.specs.Slots.{emptyIn}
+use Rattle.layout.specs.Slots.{ringsIn, emptyIn}
+use Rattle.layout.proofs.RightLists.{tables-mean}
 use Rattle.layout.proofs.Rows.{row-length}
 use Rattle.sheet.specs.Readings.{readNumber, rowOf}
+use Rattle.sheet.specs.Says.{Readable}
 
 -- ---- the number
-pub record Readable (records relations : List ℕ) (i j : ℕ) : Type 0 where
-  pub tables : wrongTables records relations ≡ false
-  pub primary : i < slots
-  pub reference : j < slots
-  pub primary-there : emptyIn records i ≡ false
-  pub reference-there : emptyIn records j ≡ false
-
 neither : (a b : Bool) → (a || b ≡ false) ↔ ((a ≡ false) × (b ≡ false))
 neither a b = (
   λ h. (is-false a (λ e. clash (a || b) (or-means a b .1 (inl e)) h), is-false b (λ e. clash (a || b) (or-means a b .1 (inr e)) h)),
@@ -52,17 +47,17 @@ module _ (records relations : List ℕ) (i j : ℕ) where
         let low = neither (ltb lastSlot i) (ltb lastSlot j) .0 (number-if-none _ slot-number .0 (q .0)) in
         let there = neither (emptyIn records i) (emptyIn records j) .0 (number-if-none _ slot-empty .0 (q .1)) in
         record {
-          tables = number-if-none _ sheet-lists .0 (p .0);
+          tables = tables-mean records relations .0 (number-if-none _ sheet-lists .0 (p .0));
           primary = slot-in i .0 (low .0);
           reference = slot-in j .0 (low .1);
-          primary-there = there .0;
-          reference-there = there .1;
+          primary-there = eqb-false (ringsIn records i) 0 (there .0);
+          reference-there = eqb-false (ringsIn records j) 0 (there .1);
         },
     λ h. first .1 (
-      number-if-none _ sheet-lists .1 (h .tables),
+      number-if-none _ sheet-lists .1 (tables-mean records relations .1 (h .tables)),
       second .1 (
         number-if-none _ slot-number .1 (neither (ltb lastSlot i) (ltb lastSlot j) .1 (slot-in i .1 (h .primary), slot-in j .1 (h .reference))),
-        number-if-none _ slot-empty .1 (neither (emptyIn records i) (emptyIn records j) .1 (h .primary-there, h .reference-there)),
+        number-if-none _ slot-empty .1 (neither (emptyIn records i) (emptyIn records j) .1 (ne-eqb (ringsIn records i) 0 (h .primary-there), ne-eqb (ringsIn records j) 0 (h .reference-there))),
       ),
     ),
   )
@@ -86,7 +81,7 @@ module _ (records relations : List ℕ) (i : ℕ) where
   unfolding rowOf
   row-full z =
       let h = read-means records relations i i .0 z in
-      simp (eq-eqb (readNumber records relations i i) 0 z) (row-length records relations i (h .tables) (h .primary))
+      simp (eq-eqb (readNumber records relations i i) 0 z) (row-length records relations i (tables-mean records relations .1 (h .tables)) (h .primary))
 
   pub row-empty : (readNumber records relations i i ≡ 0 → ⊥) → rowOf records relations i ≡ []
   unfolding rowOf
