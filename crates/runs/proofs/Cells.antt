@@ -26,7 +26,7 @@ use Rattle.layout.specs.Layout.{selfCell, cellOf}
 use Rattle.layout.specs.Slots.{cellIn}
 use Rattle.layout.proofs.Standing.{layout-cell}
 use Rattle.runs.specs.Runs.{Call, afterRun, Stands, standing}
-use Rattle.runs.proofs.Runs.{standing-together, run-layout, standing-means}
+use Rattle.runs.proofs.Runs.{standing-together, run-layout, standing-means, stands-slot}
 
 module _ (cs : List Call) (p q : ℕ) (hp : p < slots) (hq : q < slots) where
   run-cell : cellIn ((afterRun cs) .relations) p q ≡ cellOf (standing cs p) (standing cs q) (eqb p q)
@@ -39,20 +39,20 @@ module _ (cs : List Call) (p q : ℕ) (hp : p < slots) (hq : q < slots) where
       no-second nothing = refl
       no-second (outline R) = refl
 
-pub self-cell : (cs : List Call) (p : ℕ) → p < slots → (R : Region) → Stands cs p R → cellIn ((afterRun cs) .relations) p p ≡ selfCell
-self-cell cs p hp R s = run-cell cs p p hp hp ∙ rw (standing-means cs p R .1 s, eq-eqb p p refl) refl
+pub self-cell : (cs : List Call) (p : ℕ) (R : Region) → Stands cs p R → cellIn ((afterRun cs) .relations) p p ≡ selfCell
+self-cell cs p R s = run-cell cs p p (stands-slot s) (stands-slot s) ∙ rw (standing-means cs p R .1 s, eq-eqb p p refl) refl
 
 -- a standing parcel keeps the rules
-kept : (cs : List Call) (p : ℕ) → p < slots → (R : Region) → Stands cs p R → KeepsRules R
-kept cs p hp R s = rw (standing-means cs p R .1 s) at (standing-together cs .each p hp)
+kept : (cs : List Call) (p : ℕ) (R : Region) → Stands cs p R → KeepsRules R
+kept cs p R s = rw (standing-means cs p R .1 s) at (standing-together cs .each p (stands-slot s))
 
-module _ (cs : List Call) (p q : ℕ) (hp : p < slots) (hq : q < slots) (R : Region) (first : Stands cs p R) (Q : Region) (second : Stands cs q Q) where
+module _ (cs : List Call) (p q : ℕ) (R : Region) (first : Stands cs p R) (Q : Region) (second : Stands cs q Q) where
   module _ (other : p ≢ q) where
     pub standing-cell : cellIn ((afterRun cs) .relations) p q ≡ relationOf (regionBox Q) R
-    standing-cell = run-cell cs p q hp hq ∙ rw (standing-means cs p R .1 first, standing-means cs q Q .1 second, ne-eqb p q other) refl
+    standing-cell = run-cell cs p q (stands-slot first) (stands-slot second) ∙ rw (standing-means cs p R .1 first, standing-means cs q Q .1 second, ne-eqb p q other) refl
 
     pub standing-tile : (M : Lines) → RegionBox Q M → (t : ℕ) → t < 9 → (bit (cellIn ((afterRun cs) .relations) p q) t ≡ 1) ↔ RegionHas M R t
-    standing-tile M is t h = rw standing-cell (relation-tile (keeps-fewer (omega arith) (kept cs p hp R first)) (keeps-fewer (omega arith) (kept cs q hq Q second)) M is t h)
+    standing-tile M is t h = rw standing-cell (relation-tile (keeps-fewer (omega arith) (kept cs p R first)) (keeps-fewer (omega arith) (kept cs q Q second)) M is t h)
 
   pub opposite-ways : pairOf Q R .directions ≡ opposite (pairOf R Q .directions)
-  opposite-ways = directions-turned R Q (record { first-kept = kept cs p hp R first; second-kept = kept cs q hq Q second })
+  opposite-ways = directions-turned R Q (record { first-kept = kept cs p R first; second-kept = kept cs q Q second })

@@ -5,3 +5,6 @@ mod WrittenCard
 mod RoundTrip
 mod LoadedCard
 pub mod Cards
+pub mod Calls
+pub mod Readings
+pub mod Transfers

@@ -2,7 +2,7 @@
 --   standing-together   what stands may stand together, and each parcel keeps rules 1 to 7
 --   run-layout        the sheet is the layout of what stands
 --   run-fresh         and equals a fresh one into which what stands is put once each in rising slot order
---   standing-means    what stands is what was last accepted in its slot and not taken out since
+--   standing-means    what stands is what was last accepted in its slot and not taken out since;  stands-slot  there is such a slot
 use mathlib.Core.Path.{_≡_, refl, sym, _∙_, ap}
 use mathlib.Core.Logic.{_↔_}
 use mathlib.Core.Bool.{Bool, true, false}
@@ -15,6 +15,7 @@ use borrow.Author.Tests.{eq-eqb, ne-eqb, eqb-true, eqb-false, lt-ltb, le-ltb, lt
 use Rattle.plane.specs.Choice.{pick}
 use Rattle.plane.specs.Folds.{turns}
 use Rattle.plane.proofs.Logic.{never, clash, is-false, and-means}
+use Rattle.plane.proofs.Folds.{first-passes}
 use Rattle.outline.specs.Region.{Region, Parcel, nothing, outline}
 use Rattle.outline.specs.Check.{checkOf, numberOf}
 use Rattle.outline.proofs.Check.{accepted-number}
@@ -26,8 +27,9 @@ use Rattle.layout.proofs.Standing.{stand-fewer, stand-instead, stand-same, layo
 use Rattle.layout.proofs.Blank.{blank-layout}
 use Rattle.sheet.specs.Changes as Changes
 use Rattle.sheet.proofs.Layouts as Layouts
-use Rattle.card.specs.Reading.{parcelIn}
+use Rattle.card.specs.Reading.{parcelCount, slotAt, regionAt, entryOf, parcelIn}
 use Rattle.card.specs.CardNumber.{cardNumber}
+use Rattle.card.specs.Good.{GoodCard}
 use Rattle.card.proofs.Good.{good-means}
 use Rattle.transfer.specs.Load as Load
 use Rattle.transfer.specs.Load.{loadNumber}
@@ -185,3 +187,20 @@ stands-there (load card ∷ cs) i R e = go (eqb (cardNumber card) 0) refl (stand
 
 pub standing-means : (cs : List Call) (i : ℕ) (R : Region) → (standing cs i ≡ outline R) ↔ Stands cs i R
 standing-means cs i R = (stands-there cs i R, stands-back)
+
+-- ---- a parcel stands in a slot of the sheet
+loaded-slot : (b : List ℕ) → GoodCard b → (i : ℕ) (R : Region) → parcelIn b i ≡ outline R → i < slots
+unfolding parcelIn entryOf
+loaded-slot b good i R e = go (ltb (entryOf b i) (parcelCount b)) refl e
+  where
+    go : (t : Bool) → ltb (entryOf b i) (parcelCount b) ≡ t → pick t (outline (regionAt b (entryOf b i))) nothing ≡ outline R → i < slots
+    go true q h =
+        let l : entryOf b i < parcelCount b = ltb-true (entryOf b i) (parcelCount b) q in
+        let same : slotAt b (entryOf b i) ≡ i = eqb-true (slotAt b (entryOf b i)) i (first-passes (λ j. eqb (slotAt b j) i) (parcelCount b) l) in
+        omega (arith, good .slots-low (entryOf b i) l)
+    go false q h = never (ap occupied h)
+
+pub stands-slot : {cs : List Call} {i : ℕ} {R : Region} → Stands cs i R → i < slots
+stands-slot (just-put cs i R a) = a .0
+stands-slot (just-loaded cs card i R good e) = loaded-slot card good i R e
+stands-slot (still cs c i R s h) = stands-slot h

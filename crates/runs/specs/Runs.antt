@@ -2,7 +2,7 @@
 -- parcel stands where it was the last that was accepted in its slot and nothing has taken it out since. The sheet is then, number for
 -- number, a fresh one into which what stands is put once each, in rising slot order.
 --   Call                     a call with its arguments
---   afterCall c s            the sheet at the call's exit, by the definitions that the contracts cite
+--   afterCall c s            the sheet at the call's exit, by the definitions that the contracts cite;  callNumber c s  what the call answers
 --   afterRun cs              the sheet after a run of calls on an empty one, the newest call first
 --   AcceptedPut i R          a put that is accepted on such a sheet: there is such a slot, and the outline keeps rules 1 to 7
 --   Spares i c               the call c takes nothing out of slot i and puts nothing into it
@@ -42,6 +42,12 @@ afterCall (put i R) s = Changes.put s i R
 afterCall (remove i) s = Changes.remove s i
 afterCall clear s = Changes.clear s
 afterCall (load card) s = Load.load s card
+
+abbrev pub callNumber : Call → Sheet → ℕ
+callNumber (put i R) s = Changes.putNumber s i R
+callNumber (remove i) s = Changes.removeNumber s i
+callNumber clear s = Changes.clearNumber s
+callNumber (load card) s = Load.loadNumber s card
 
 abbrev pub afterRun : List Call → Sheet
 afterRun [] = blank
