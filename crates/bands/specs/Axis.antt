@@ -1,4 +1,4 @@
--- One axis of the plane at a time: 0 is x, 1 is y.
+-- No rule stands here: one axis of the plane at a time, 0 for x, 1 for y.
 --   placeIn axis P    where the point P lies in this axis, in places
 use Prim.Native.Nat.{ℕ, zero, suc}
 use Rattle.plane.specs.Place.{placeOf}

@@ -1,5 +1,6 @@
--- No rule of document 01 stands here: these definitions only carry the proof that no pair of edges is missed.
+-- No rule of docs/SCOPE.md stands here: these definitions only carry the proof that no pair of edges is missed.
 -- A ring's box is cut in one axis into bands of 2 ^ shift places. Bit e of a word stands for edge e, whose ends are vertices e and e + 1.
+--   bands, mostEdges       how many bands there are; how many edges a word has a bit for
 --   bandOf low shift v     the band of the place v, where the first band begins at `low`
 --   Banded                 s has the band of each end of each edge
 --   Marked s n t           word t(b) has every edge with an end in band b

@@ -1,10 +1,10 @@
--- Document 01, "The card", how loading refuses: 14, then 15, then rules 2 and 3 one parcel after the other, then 16, then rules 4 to 7 one
--- parcel after the other; of one parcel the lowest number. The numbers that refuse a card by itself.
+-- SCOPE 8.3 to 8.5: the numbers that refuse a card by itself. 14 comes first, then 15; then, parcel after parcel, the lower of rules 2 and 3;
+-- then 16; then, parcel after parcel, the lowest of rules 4 to 7.
 --   wrongHeader b        rule 14
 --   wrongEntry b k       entry k breaks rule 15;  wrongParcels b  some entry does, or the entries' rings are not the header's
 --   sizesNumber b k      the lowest number of rules 2 and 3 (last end) that parcel k breaks, or 0;  shapeNumber b k  of rules 4 to 7
 --   wrongVertices b      rule 16
---   cardNumber b         the card's own refusal, or 0: the card is good. Its meaning: proofs/GoodMeans, `good-means`
+--   cardNumber b         the card's own refusal, or 0: the card is good. Its meaning: proofs/Good, `good-means`
 use mathlib.Core.Bool.{Bool, not, _&&_, _||_}
 use mathlib.Core.List.{List}
 use Prim.Native.Nat.{ℕ, _-_}

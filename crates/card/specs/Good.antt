@@ -1,5 +1,5 @@
--- Document 01, "The card", with rows 14, 15 and 16 of the table: which bytes are a good card.
---   GoodCard b     every sentence on the layout holds of the bytes b, and every parcel keeps rules 1 to 7
+-- SCOPE 8.1 to 8.5: which bytes are a good card. Each field of GoodCard is one sentence of these rules.
+--   GoodCard b     the bytes b keep the layout and numbers 14, 15 and 16, and every parcel of them keeps rules 1 to 7
 --   CardsOwn n     n is one of the numbers that refuse a card by itself: 2 to 7, 14, 15 or 16
 use mathlib.Core.Path.{_≡_}
 use mathlib.Core.Logic.{_⊎_}

@@ -1,6 +1,8 @@
--- Document 01, "The card": a header of six numbers (how many parcels, rings and vertices, and where their three parts begin), then four bytes
--- for each parcel, two for each ring end and eight for each vertex, and nothing behind. Reading and writing take their places from here.
---   cardParcels, cardRings, cardVertices       what a header may count;  lastCardSlot  the highest slot that an entry may name
+-- SCOPE 8.1, 8.2: where everything stands on a card. Six numbers are the header: how many parcels, rings and vertices there are, and where the
+-- three parts begin. A parcel has four bytes in the first part, a ring end two in the second, a vertex eight in the third, and the card ends
+-- there. Reading and writing take their places from here.
+--   cardParcels, cardRings, cardVertices       what a header may count
+--   lastCardSlot                               the highest slot that an entry may name: the card's own limit, refused by 15 and not by 8
 --   parcelsAt, ringsAt, verticesAt             where the three parts begin
 --   lengthOf                                   the card's length
 use Prim.Native.Nat.{ℕ, _+_, _*_}

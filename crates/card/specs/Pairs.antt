@@ -1,4 +1,4 @@
--- Two parcels of a card, counted from 0 in its order.
+-- SCOPE 9.2, 10.2: two parcels of a card, counted from 0 in its order, and so by rising slots.
 --   pairIn card j k      the pair answer for parcels j and k
 use mathlib.Core.List.{List}
 use Prim.Native.Nat.{ℕ}

@@ -1,4 +1,4 @@
--- The numbers of a card, by its layout, for any bytes: a byte that is not there reads as 0.
+-- SCOPE 8.1, 8.2: the numbers of a card, by its layout, for any bytes: a byte that is not there reads as 0.
 --   parcelCount, ringCount, vertexCount     the header's counts
 --   slotAt b k, countAt b k                 the slot and the ring count of parcel entry k
 --   firstRing b k, firstVertex b k          how many rings and how many vertices the parcels before k have

@@ -1,4 +1,4 @@
--- What the functions that read a card may rely on: conditions of inner functions, no part of what is promised.
+-- No rule stands here: what the functions that read a card may rely on. Conditions of inner functions, no part of what is promised.
 --   RightParcels b          the card keeps rules 14 and 15: every ring entry is there
 --   RightVertices b         it keeps rules 2, 3 and 16 too: every vertex is there
 use mathlib.Core.Path.{_≡_}

@@ -1,4 +1,4 @@
--- What is drawn from an edge's list means what document 01 says, for coordinates in range and a box whose west is at most its east and
+-- What is drawn from an edge's list means what SCOPE 4.3 and 4.8 say, for coordinates in range and a box whose west is at most its east and
 -- whose south is at most its north.
 --   walk-is        the walk's set and pieces are those of the edge;  walk-none  with equal ends no tile and one piece
 --   has-means      the edge has a tile on its list exactly where one of its points belongs to it

@@ -1,5 +1,5 @@
--- What is drawn from the list of an edge's tiles: the tiles that the edge has and its pieces, one a tile. An edge with equal ends has
--- no tile and is one piece. Their meaning: proofs/Drawn, `has-means` and `pieces-mean`.
+-- SCOPE 4.3, 4.8, computed: what is drawn from the list of an edge's tiles: the tiles that the edge has and its pieces, one a tile. An edge
+-- with equal ends has no tile and is one piece. Their meaning: proofs/Drawn, `has-means` and `pieces-mean`.
 --   drawn v       a list with the set of its tiles and its pieces
 --   walkOf b g    the walk along the edge g, seen from the box b: its list with what is drawn from it
 --   has b g t     the edge g has tile t of the box b

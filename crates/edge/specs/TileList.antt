@@ -1,5 +1,5 @@
--- A list of tiles as one number: hexadecimal digits, each a tile plus 1, the last tile lowest. So 0 is the empty list, and the number
--- alone tells how many tiles there are. An edge has at most five.
+-- No rule stands here: how the list of SCOPE 4.7 is held. A list of tiles as one number: hexadecimal digits, each a tile plus 1, the last
+-- tile lowest. So 0 is the empty list, and the number alone tells how many tiles there are. An edge has at most five.
 --   withTile v t    the list v with the tile t behind it
 --   digitIn v j     digit j of the list v, counted from the lowest
 --   countIn v       how many tiles stand on the list v

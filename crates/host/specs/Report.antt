@@ -1,6 +1,5 @@
--- Document 01, the call for the C host: card bytes and a report buffer in, 0 or a number out. Refused in the order 10 (the buffer has less
--- than 38 bytes), the card's own number, 17, 13. The report is the 19 numbers of the pair answer, little-endian, two bytes each; what the
--- buffer has behind them stays.
+-- SCOPE 9: the call for the C host, of a card's bytes and a report buffer. It answers 10 for a buffer of fewer than 38 bytes, then the card's own
+-- number, 17, 13, or 0. The report is the 19 numbers of the pair answer, two bytes each; what the buffer has behind them stays.
 --   reportNumbers, reportLength     how many numbers a report has, and how many bytes
 --   reportBytes a                   the bytes of an answer's report
 --   hostNumber card report          the number that the call returns;  hostReport card report  the report buffer at exit

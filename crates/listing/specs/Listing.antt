@@ -1,11 +1,11 @@
--- Document 01: "The listing program reads a card on standard input; a refusal prints `refused ` and the number. .. First the count; then for each
--- ordered pair of different slots, primary rising and then reference rising: primary, reference, tiles and directions in bit order, pieces of
--- the primary. Every line, a refusal's too, ends in one line feed." A card's parcels stand in rising slot order. Letters are the numbers of
--- their ASCII codes.
---   decimal n              a number below 100,000 in as few digits as hold it
---   pairLine p q a         the line for the parcels of slots p and q, whose pair answer is a
---   lineOf card j k        that of parcels j and k of the card, counted from 0; of a parcel with itself there is none
---   listing card           the whole text
+-- SCOPE 10: the list of a card. A card that is refused gives `refused ` and its number. Any other gives `parcels ` and their count, and then a
+-- line for every two of its parcels, each as the one that is looked at in turn and with it every other as the one from which: slots, tiles,
+-- directions, pieces. A line feed ends each line. Letters are the numbers of their ASCII codes.
+--   space, lineFeed           the two bytes;  parcelsWord, refusedWord  the two words with a space behind them
+--   placesOf n, decimal n     how few digits hold a number below 100,000, and these digits
+--   pairLine p q a            the line for the parcels of slots p and q, whose pair answer is a
+--   lineOf card j k           that of parcels j and k of the card, counted from 0; of a parcel with itself there is none
+--   listing card              the whole text
 use mathlib.Core.List.{List, [], _∷_, _++_}
 use Prim.Native.Nat.{ℕ}
 use lib.Dec.{ltb, eqb}

@@ -1,5 +1,6 @@
--- Document 01: "Bits: NW 0, N 1, NE 2, W 3, B 4, E 5, SW 6, S 7, SE 8. In directions bit 4 is written O." Sets as words, in bit order, a colon
--- between two; letters are the numbers of their ASCII codes.
+-- SCOPE 4.1, 5.4, 10.2: sets as words, the names of their bits in order with a colon between two. Bit 4 is B among tiles and O among directions.
+-- Letters are the numbers of their ASCII codes.
+--   N, S, W, E, B, O, colon    these letters
 --   nameOf middle k        the name of bit k, where `middle` is the letter of bit 4
 --   colonAfter text        a colon, where a text stands before
 --   namesTo middle s k     the names of those of the first k bits that are set in s;  namesOf  of all nine

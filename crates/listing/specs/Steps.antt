@@ -1,4 +1,5 @@
--- What the functions behind the listing compute. No promise hangs on these names: proofs/ shows that the steps together are the listing.
+-- No rule stands here: what the functions behind the listing compute. No promise hangs on these names: proofs/ shows that the steps
+-- together are the listing.
 --   Put b at text r c      a call that writes a text into the buffer b from the place `at` on: c is the buffer behind it, r the place
 --   joint from at          the colon before a name, where the word that starts at `from` has come to the place `at`
 --   nameStep middle s k    what bit k of the set s adds to the names of the bits below it

@@ -1,6 +1,8 @@
--- Document 01, "Outlines to try, with what they give": outlines 1 to 12, each seen both ways, with all that the document says of them.
+-- SCOPE 11: outlines 1 to 12, each seen both ways, with every field of the answer.
 --   Row                 two regions, the pair answer for them and the word "around"
 --   given, refused      an answer by its numbers: relations both ways, rows, columns, nine cells, directions, pieces; a refusal by number and region
+--   square, overlapping, beside, corner, apart, triangle, crossed, large, ring, bow-tie, flat, reversed, two-vertices, too-far, at-the-end
+--                       the outlines
 --   rows                the table. That the definitions give it: proofs/Table, `table`
 use mathlib.Core.Bool.{Bool, true, false}
 use mathlib.Core.List.{List, [], _∷_}

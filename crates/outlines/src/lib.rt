@@ -1,1 +1,1 @@
-// The worked outlines of document 01 as one proved table of the definitions. There is no code here.
+// SCOPE 11: the worked outlines as one proved table of the definitions. There is no code here.

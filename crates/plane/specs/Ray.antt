@@ -1,4 +1,4 @@
--- The counting rule behind "enclosed", for any point with a denominator: which edges cross the ray that runs east from it.
+-- SCOPE 4.5: the counting rule behind "enclosed", for any point with a denominator: which edges cross the ray that runs east from it.
 -- An edge crosses where it has a point at the pin's height and strictly east of it. Of its ends the lower one counts and the upper one
 -- does not, so that two edges that join on the ray count as they should, and a level edge never crosses.
 --   Pin                 the point (x/n, y/n)

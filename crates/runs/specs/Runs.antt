@@ -1,6 +1,6 @@
--- The tender's condition 3: an empty sheet that only our calls write, and any run of puts, removals, clearings, loads and refused calls. A
--- parcel stands where it was the last that was accepted in its slot and nothing has taken it out since. The sheet is then, number for
--- number, a fresh one into which what stands is put once each, in rising slot order.
+-- SCOPE 1.3: a sheet that began empty, and any run of our calls on it, refused ones among them. What stands is, slot by slot, the last parcel
+-- that was accepted there, unless a later call took it out. The sheet is then, number for number, a fresh one into which what stands is put
+-- once each, lowest slot first.
 --   Call                     a call with its arguments
 --   afterCall c s            the sheet at the call's exit, by the definitions that the contracts cite;  callNumber c s  what the call answers
 --   afterRun cs              the sheet after a run of calls on an empty one, the newest call first

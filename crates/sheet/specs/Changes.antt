@@ -1,4 +1,4 @@
--- Document 01, "The sheet", and the tender's condition 1: the calls that change a sheet, each a function of the lists and the arguments,
+-- SCOPE 7.4, 7.6, 1.1: the calls that change a sheet, each a function of the lists and the arguments,
 -- for every input. A put is refused by 11, 8 and 12, then by rules 1 to 7; a removal by 11, 8 and 12, then by 9; a clearing by 11 alone.
 -- A call that is refused leaves the three lists as it found them.
 --   putNumber s i R, removeNumber s i, clearNumber s    what the call answers: 0 or the refusal. Test by test: proofs/Orders

@@ -1,4 +1,4 @@
--- Document 01, "The sheet": the readings. They are lent the records and the relations, and never ask whether the sheet is damaged. A cell is
+-- SCOPE 7.7: the readings. They are lent the records and the relations, and never ask whether the sheet is damaged. A cell is
 -- refused by 11, then 8, then 9, each for either slot; a row is that part of the lent table, and empty exactly where one of these numbers
 -- applies. How many tiles a relation has counts its nine low bits.
 --   readNumber records relations i j    the refusal of reading the cell of i and j, or 0;  readValue  the relation there, 0 beside a refusal

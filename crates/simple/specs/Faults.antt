@@ -1,4 +1,4 @@
--- Document 01, rules 5, 6 and 7, asked of one ring at once.
+-- SCOPE 3.1, rules 5, 6 and 7, asked of one ring at once.
 --   faultsOf xs from n    does the ring repeat a vertex (rule 5), is it tangled (rule 6), is it not clockwise (rule 7)
 use mathlib.Core.Bool.{not}
 use mathlib.Core.List.{List}

@@ -1,4 +1,4 @@
--- No rule of document 01 stands here: the ranges of a small ring's edges in one axis, laid out in two lists.
+-- No rule of docs/SCOPE.md stands here: the ranges of a small ring's edges in one axis, laid out in two lists.
 --   small      up to so many vertices a ring is small
 --   LaidOut    lows has the lower end of each edge, highs the higher one
 --   rangesApart    the ranges of edges i and j have no number in common

@@ -1,4 +1,5 @@
--- No rule of document 01 stands here: rule 6 in the two parts in which the code looks at it. That together they are rule 6: proofs/Parts, `tangled-parts`.
+-- No rule of docs/SCOPE.md stands here: its rule 6 in the two parts in which the code looks at it. That together they are rule 6:
+-- proofs/Parts, `tangled-parts`.
 --   edgeBefore n k      the edge before edge k of a ring of n
 --   folded xs from n    some edge folds back on the edge before it
 --   strangers n i j     edge j comes after edge i and the two are not neighbours

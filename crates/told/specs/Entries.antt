@@ -1,5 +1,5 @@
--- The entries of the table, two a number, as the code has them. Nobody has to believe these numbers: proofs/Entries of `classes` shows
--- that each is 0 or tells the walk of every edge between its two classes.
+-- No rule stands here: the entries of the table, two a number, as the code has them. Nobody has to believe these numbers: proofs/Entries of
+-- `classes` shows that each is 0 or tells the walk of every edge between its two classes.
 --   twoEntries    entries 2k and 2k + 1, the second 32 bits higher, at place k
 --   entryAt i     entry i; 0 past the last one
 use mathlib.Core.List.{List, [], _∷_}
