@@ -1,10 +1,12 @@
--- Document 01: "Directions: for each cell holding a and each cell holding b, the compass place of the first from the second; same row and
--- column gives O." "In directions bit 4 is written O. The opposite of bit k is bit 8-k."
--- Any three by three array is read; a value other than 1, 2 and 3 holds nothing.
+-- SCOPE 5.4, 4.1: where on the compass the cells that hold a lie, seen from those that hold b. A cell may hold both: that is O, bit 4. Any
+-- three by three array is read; a value other than 1, 2 and 3 holds nothing.
 --   valueAt m i j          the value in row i from the north and column j from the west
 --   HoldsFirst, HoldsSecond     the cell holds a (value 1 or 3), holds b (value 2 or 3)
 --   Toward s i i'          number i lies on side s of number i': 0 before it, 1 with it, 2 after it
 --   Direction m k          some cell holding a lies in direction k from some cell holding b
+--   sideOf, holdsFirst, holdsSecond    the same as tests; cells are numbered by row here
+--   compassPlace c d       the direction in which cell c lies from cell d
+--   directed m k           some cell holding a lies in direction k from some cell holding b, tested
 --   directionsOf m         the set of directions, computed. Its meaning: proofs/Directions, `directions-mean`
 --   opposite s             the set with bit k at 8 - k
 use mathlib.Core.Path.{_≡_}

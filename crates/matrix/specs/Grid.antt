@@ -1,4 +1,4 @@
--- Document 01: "The distinct box lines of both regions, within the joint box, give 1 to 3 columns from the west and 1 to 3 rows from the north."
+-- SCOPE 5.1: the lines of the two boxes, those that fall together counted once, cut the plane between the outermost of them into strips.
 -- One axis at a time: the lines lo and hi of the first box, lo' and hi' of the second. The strips between neighbouring lines
 -- are numbered from the low end, so columns are the strips in x, and rows the strips in y counted from the other end.
 --   IsLine lo hi lo' hi' v        v is one of the four lines

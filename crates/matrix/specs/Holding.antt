@@ -1,11 +1,12 @@
--- Document 01: "A cell holds region a exactly when it lies inside a's box and the tile of b's box that contains it is in a's relation to b;
--- likewise for b."
+-- SCOPE 5.2: a cell holds a region where the cell is a part of the region's box and the region has that tile of the other's box in which the cell
+-- lies. The grid of 5.1 in places, and this rule as a test.
 --   RangeContains c lo hi p q     range c of the lines lo and hi contains everything between p and q
 --   HoldsWhere L M Has p q u v    the cell between p, q and u, v lies inside the box L, and the tile of the box M around it is one that `Has` tells of
 --   Holds L M relation p q u v    so it holds the region whose box is L and whose relation to the box M is given
---   Rectangle                     a cell in places
---   linesOf, columnCount, rowCount, cellAt     the grid in places: the distinct lines in rising order, how many strips they make, and the cell in
---                                 row i and column j
+--   insert v l                    v put into the rising list l, once
+--   linesOf lo hi lo' hi'         the distinct lines of one axis in rising order;  acrossLines, upLines  those of two boxes in x, in y
+--   columnCount, rowCount         how many strips they make
+--   Rectangle, cellAt             a cell in places, and the cell in row i and column j
 --   rangeOf lo hi p               how many of the two lines lie at or before p: the range just after p
 --   holds a b relation c          the cell c holds the region with box a. Its meaning: proofs/Holding, `holds-means`
 use mathlib.Core.Path.{_≡_}

@@ -1,4 +1,5 @@
--- Document 01: "Value: 1 for a, plus 2 for b. Cells past the size are 0. The matrix is a three by three array of small numbers."
+-- SCOPE 5.3: the matrix. A cell that holds a has 1, one that holds b has 2, one that holds both their sum; of the nine cells those past the
+-- size of the grid have 0.
 --   cellValue a b r s i j    the value in row i from the north and column j from the west; r is the relation of the region with
 --                            box a to the other, s that of the other to it
 --   matrixOf a b r s         the array, a list of three rows;  flatOf  the same nine numbers by row;  threeRows  nine numbers as three rows
