@@ -1,6 +1,6 @@
--- Document 01, the pair call. The first region is checked wholly before the second, and a refusal names the region, 1 or 2; number 13 names
--- region 1 where the relation without a tile is the first's. In a refused answer every other field is 0. The word "around" is yes exactly
--- when the directions are the eight without O.
+-- SCOPE 6.1, 6.2, 5.5: the pair call. Region 1 is wholly checked, then region 2, and a refusal says which of them it is of; of number 13 it
+-- is the region whose relation has no tile. Beside a refusal all other fields are 0. A region is around the other where it lies in all
+-- eight directions from it and not in O.
 --   refusedWith n g r          the refusal with number n that names region g and ring r
 --   orRefused c g a            the answer a where the check c accepts region g, and its refusal where not
 --   given a b there back       the answer's fields for two boxes and what each region shows of the other's
