@@ -1,5 +1,5 @@
--- What a ring encloses: a point is enclosed where an odd number of the ring's edges cross the ray that runs east from it (plane's Ray).
--- The third clause of the tile rule asks this of the centre of the box, which is ((west + east)/2, (south + north)/2).
+-- SCOPE 4.5: what a ring encloses. A point is enclosed where an odd number of the ring's edges cross the ray that runs east from it (plane's
+-- Ray). The second part of 4.4 asks this of the centre of the box, which is ((west + east)/2, (south + north)/2).
 -- In places a pin (x/n, y/n) is n times its distance from the corner of the range: px = x + n·1,000,000, py = y + n·1,000,000.
 --   Enclosed P xs from n     the ring encloses the pin P
 --   centre L                 the centre of the box with the lines L

@@ -1,6 +1,6 @@
--- What a pass over a ring answers: the set of its tiles and the sum of its pieces.
+-- SCOPE 4.4, 4.8, computed: what a pass over a ring answers, the set of its tiles and the sum of its pieces.
 --   edgesSeen b xs from n    by its edges alone
---   ringSeen b xs from n     by all three clauses
+--   ringSeen b xs from n     by edges and centre
 use mathlib.Core.List.{List}
 use Prim.Native.Nat.{ℕ}
 use lib.IntN.{ℤ}
