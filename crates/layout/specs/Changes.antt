@@ -1,8 +1,8 @@
--- Document 01, "The sheet": a put replaces what stands in its slot, a removal leaves it empty. Both write the whole room, record, row and
--- column of the slot, zeros included, and nothing else; and both are refused in the order 11, 8, 12 before they look at anything of their
--- own. A call without a slot is refused by 11, then 12.
+-- SCOPE 7.4, 7.6, 1.3: a parcel comes into a slot, or nothing does, in place of what stood there. Room, record, row and column of the slot are
+-- written whole, zeros included, and nothing else is. Every such change is refused by 11, 8 and 12, in this order, before it looks at anything
+-- of its own; a call without a slot by 11, then 12.
 --   withParcel s i p        the sheet s with p in slot i
---   TouchesOnly i s t       the tender's condition 3, place by place: t differs from s at most in the room and the record of slot i, and
+--   TouchesOnly i s t       condition 3's second sentence, place by place: t differs from s at most in the room and the record of slot i, and
 --                           in its row and its column. That withParcel keeps to it: proofs/Written, `with-touches`
 --   changeNumber s i        the refusal of any change of slot i, or 0
 --   wholeNumber s           the refusal of a call on the whole sheet, or 0. Its meaning: proofs/Refusing, `whole-means`

@@ -1,5 +1,5 @@
--- Document 01, rule 12: a sheet is damaged where some slot has more than 8 rings, or is not empty and breaks rule 2, rule 3 by its last end,
--- or rule 4.
+-- SCOPE 7.5, number 12: a sheet is damaged where a slot of it has a ring count above 8, or holds an outline with a ring too short (rule 2), too
+-- high a last end (rule 3) or a coordinate out of range (rule 4).
 --   Undamaged s             rule 12 is kept
 --   breaksRule R n          some ring of the region breaks rule n, tested
 --   damagedAt xs records i  slot i is damaged, tested;  damaged s  some slot is. Its meaning: proofs/Undamaged, `undamaged-means`

@@ -1,6 +1,6 @@
--- Document 01, "The sheet": what stands decides every number of the three lists. A slot's room has the coordinates of its outline and its
--- record the number of its rings and their ends, 0 where unused; the cell of two occupied slots has the relation of the first to the
--- second, B where it is one slot, and every other cell is 0.
+-- SCOPE 7.2, 7.3: what stands decides every number of the three lists. The room of a slot has its outline's coordinates, its record the number
+-- of rings and their ends, and places that nothing uses are 0. A cell has the relation of the parcel that is looked at to the other, B where
+-- both are one, and 0 where one of the two slots is empty.
 --   recordNumber ends k     number k of the record of a slot with these ring ends
 --   selfCell                the cell of a parcel with itself
 --   cellOf p q same         the cell of the parcels p and q;  same: they stand in one slot

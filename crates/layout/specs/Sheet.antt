@@ -1,4 +1,4 @@
--- Document 01, "The sheet" and rule 11: a sheet is three lists, each of a fixed length. A slot has a room of coordinates in the first, a
+-- SCOPE 7.1, number 11: a sheet is three lists, each of a fixed length. A slot has a room of coordinates in the first, a
 -- record of ring ends in the second, and in the third a row, where it is the primary slot, and a column, where it is the reference.
 --   slots, lastSlot         how many slots there are, and the highest slot number
 --   room, recordLength      how many coordinates, and how many numbers of a record, belong to a slot

@@ -1,4 +1,4 @@
--- What is read from the lists of any sheet, also of one that others have written. A ring count of 0 means that the slot is empty.
+-- SCOPE 7.2, 7.8: what is read from the lists of any sheet, also of one that others have written. A ring count of 0 means that the slot is empty.
 --   ringsIn records i       the ring count of slot i;  emptyIn records i  the slot is empty
 --   endsIn records i, coordinatesIn xs records i    the ring ends and the coordinates that slot i uses;  regionIn  the region they are
 --   inSlot xs records i     what stands in slot i;  parcelAt s i  the same, of a sheet

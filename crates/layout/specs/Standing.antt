@@ -1,4 +1,4 @@
--- What stands in the slots: a function from slot numbers to parcels. What may stand on a sheet, and how much of it there is.
+-- SCOPE 2.4: what stands in the slots, a function from slot numbers to parcels. What may stand on a sheet, and how much of it there is.
 --   occupied p              a parcel is there
 --   endList p, coordinateList p    its ring ends and its coordinates: none where nothing is there
 --   instead st i p          what stands once p has come into slot i, in place of what stood there

@@ -1,4 +1,4 @@
--- What the functions behind the calls may rely on, and what one step of them computes. No promise hangs on these names.
+-- No rule stands here: what the functions behind the calls may rely on, and what one step of them computes. No promise hangs on these names.
 --   SlotLists xs records    the lists in which the outlines lie have their lengths
 --   Counted records i       the ring ends of slot i may be read;  Outlined xs records i  and its coordinates too
 --   Whole xs records        that holds of every slot, and what stands there keeps rules 1 to 4
