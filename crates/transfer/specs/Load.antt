@@ -1,4 +1,4 @@
--- Document 01, "The card": loading is refused by 11, then by the card's own numbers, and otherwise replaces the whole sheet, damaged or not.
+-- SCOPE 8.5: loading. 11 refuses it first, then the card's own numbers; a good card replaces the whole sheet, be that damaged or not.
 --   loadNumber s b    what loading the card b into the sheet s answers;  load s b  the sheet at exit
 use mathlib.Core.List.{List}
 use Prim.Native.Nat.{ℕ}

@@ -1,5 +1,5 @@
--- What the functions that write a card compute from the lists, slot by slot, and what they may rely on. No promise hangs on these names:
--- proofs/Parts shows that they are the parts of specs/Write.
+-- No rule stands here: what the functions that write a card compute from the lists, slot by slot, and what they may rely on. No promise
+-- hangs on these names: proofs/Parts shows that they are the parts of specs/Write.
 --   Countable records       the ring ends of every slot may be read, and are within a region's limits
 --   totalsOf records        how many parcels, rings and vertices stand
 --   entriesOf records, endsOf records, verticesOf xs records     the bytes of the three parts

@@ -1,4 +1,4 @@
--- Document 01, "The card": the card of what stands, and writing it. Writing is refused by 11, then 12, then 10 where the buffer is shorter
+-- SCOPE 8.1, 8.2, 8.6: the card of what stands, and writing it. Writing is refused by 11, then 12, then 10 where the buffer is shorter
 -- than the card; it answers the card's length, 0 beside a refusal, and bytes behind the card stay.
 --   headerOf p r v          the six numbers of the header of a card with so many parcels, rings and vertices
 --   entryBytes i there n    the entry of slot i, where a parcel with n rings is there
