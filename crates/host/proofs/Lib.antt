@@ -1,5 +1,4 @@
 mod Report
-mod Words
 pub mod Meaning
 pub mod Call
 pub mod Only

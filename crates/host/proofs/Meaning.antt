@@ -51,7 +51,7 @@ use Rattle.card.proofs.Numbers.{card-number-either, not-good-means}
 use Rattle.host.specs.Meaning.{Reported, ReportHas}
 use Rattle.host.specs.Report.{reportNumbers, reportLength, reportBytes, hostNumber, hostReport}
 use Rattle.host.proofs.Report.{report-short, report-card, report-parcels, report-done}
-use Rattle.host.proofs.Words.{word-read, Small, small-none, small-more, small-append}
+use Rattle.endian.proofs.Words.{word-read, Small, small-none, small-more, small-append}
 
 own-some : (n m : ℕ) → CardsOwn n → n ≡ m → (m ≢ 0) × (m ≢ 10) × (m ≢ 17)
 own-some n m (inl p) e = (λ q. omega (arith, p .0), λ q. omega (arith, p .1), λ q. omega (arith, p .1))

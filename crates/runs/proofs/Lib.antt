@@ -1,6 +1,5 @@
 pub mod Runs
 pub mod Cells
-mod Held
 mod WrittenCard
 mod RoundTrip
 mod LoadedCard

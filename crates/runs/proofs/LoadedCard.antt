@@ -31,7 +31,7 @@ use Rattle.card.proofs.Good.{slots-rise}
 use Rattle.card.proofs.Bounds.{length-ends}
 use Rattle.transfer.specs.Write.{headerOf, entryBytes, entryPart, endPart, vertexPart, cardOf}
 use Rattle.transfer.proofs.Lengths.{entries-length, ends-length, vertices-length, written-length}
-use Rattle.runs.proofs.Held.{Held, held-append, join-held, held-u16, held-i32}
+use Rattle.endian.proofs.Held.{Held, held-append, join-held, held-u16, held-i32}
 
 plus-none : (a : ℕ) → a + 0 ≡ a
 plus-none a = omega arith

@@ -23,7 +23,7 @@ use Rattle.card.specs.Reading.{parcelCount, slotAt, countAt, firstRing, firstVe
 use Rattle.card.specs.Good.{GoodCard}
 use Rattle.transfer.specs.Write.{cardOf}
 use Rattle.transfer.proofs.Lengths.{written-length}
-use Rattle.runs.proofs.Held.{u16-held}
+use Rattle.endian.proofs.Held.{u16-held}
 use Rattle.runs.proofs.WrittenCard.{B, parts, parcels-le, rings-le, vertices-le, parcels-read, rings-read, vertices-read, kept, size, slot-read, count-read, rings-before, vertices-before, region-read}
 
 module _ (st : ℕ → Parcel) where

@@ -30,7 +30,7 @@ use Rattle.card.specs.Layout.{cardParcels, cardRings, cardVertices, parcelsAt, 
 use Rattle.card.specs.Reading.{parcelCount, ringCount, vertexCount, slotAt, countAt, firstRing, endsAt, firstVertex, numbersAt, regionAt}
 use Rattle.transfer.specs.Write.{headerOf, entryBytes, entryPart, endPart, vertexPart, cardOf}
 use Rattle.transfer.proofs.Lengths.{entries-length, ends-length, vertices-length}
-use Rattle.runs.proofs.Held.{Held, held-whole, held-left, held-right, held-joined, u16-held, i32-held}
+use Rattle.endian.proofs.Held.{Held, held-whole, held-left, held-right, held-joined, u16-held, i32-held}
 
 -- every coordinate of an accepted outline is in range
 numbers-in : (R : Region) → KeepsRules R → (k : ℕ) → k < 2 * lastEnd (R .ends) → inRange (getD (R .coordinates) k (pos 0)) ≡ true

@@ -1,5 +1,5 @@
 -- Lists that stand in a longer list of bytes, and the numbers read there.
---   Held b at l       the list l stands in b from place `at` on
+--   Held b at l       the list l stands in b from place `at` on;  held-whole  b stands in itself from the front on
 --   held-left, held-right, held-joined    so do its parts;  held-append, join-held  and parts that follow each other make the whole
 --   u16-held, i32-held        the number whose bytes stand there is read there;  held-u16, held-i32  and the other way round
 use mathlib.Core.Path.{_≡_, sym, _∙_, ap, subst}
