@@ -28,7 +28,7 @@ use Rattle.plane.specs.Choice.{pick}
 use Rattle.plane.specs.Points.{Lines}
 use Rattle.plane.specs.TileSet.{bit}
 use Rattle.plane.proofs.Logic.{iff-join}
-use Rattle.edge.specs.Travel.{Among}
+use Rattle.plane.specs.Lists.{Among}
 use Rattle.outline.specs.Region.{Region}
 use Rattle.outline.proofs.Keeps.{keeps-fewer, Sized, sized}
 use Rattle.outline.proofs.Ends.{start-le}

@@ -14,7 +14,7 @@ use borrow.Author.Tests.{ne-eqb}
 use Rattle.plane.specs.Choice.{pick}
 use Rattle.plane.specs.Folds.{firstOf}
 use Rattle.plane.specs.TileSet.{bit}
-use Rattle.edge.specs.Travel.{Among}
+use Rattle.plane.specs.Lists.{Among}
 use Rattle.listing.specs.Names.{N, S, W, E, B, O, colon, nameOf, namesOf}
 use Rattle.listing.proofs.NameWords.{between, setBits, set-bits-mean, names-are, name-starts}
 

@@ -22,7 +22,7 @@ use Rattle.plane.specs.Folds.{anyTo}
 use Rattle.plane.specs.TileSet.{bit}
 use Rattle.plane.proofs.Logic.{clash, is-false}
 use Rattle.plane.proofs.Folds.{any-means}
-use Rattle.edge.specs.Travel.{Among}
+use Rattle.plane.specs.Lists.{Among}
 use Rattle.listing.specs.Names.{N, S, W, E, colon, nameOf, colonAfter, namesTo, namesOf}
 
 abbrev pub Starts : List ℕ → Type 0

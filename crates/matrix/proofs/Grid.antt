@@ -17,6 +17,7 @@ use lib.Dec.{ltb}
 use lib.ListN.{length, getD}
 use lib.IntN.{ℤ, pos, negsuc, subℕ}
 use lib.Signed.{_<ℤ_}
+use Rattle.plane.specs.Lists.{Among}
 use Rattle.plane.specs.Place.{inRange, placeOf}
 use Rattle.plane.specs.Counting.{Distinct}
 use Rattle.plane.proofs.Logic.{iff-join, iff-turn, iff-or}
@@ -25,7 +26,7 @@ use Rattle.plane.proofs.Difference.{diff-sub, diff-place, diff-eq}
 use Rattle.plane.proofs.Counting.{distinct-only}
 use Rattle.matrix.specs.Grid.{IsLine, Strips, Strip}
 use Rattle.matrix.specs.Holding.{linesOf}
-use Rattle.matrix.proofs.Lines.{Rises, Among, lines-rise, lines-means, lines-turned}
+use Rattle.matrix.proofs.Lines.{Rises, lines-rise, lines-means, lines-turned}
 
 -- ---- the coordinate at a place
 coordinateOf : ℕ → ℤ

@@ -1,5 +1,5 @@
 -- The list of lines in places: it rises, it holds exactly the four lines, and no second list does both.
---   Rises l, Among v l    l is strictly rising; v stands in l
+--   Rises l               l is strictly rising
 --   rising-only           two rising lists with the same members are one
 --   lines-rise            the list of lines is strictly rising
 --   lines-means           its members are exactly the four lines
@@ -17,14 +17,12 @@ use borrow.Author.Tests.{ltb-true, ltb-false, eqb-true, eqb-false}
 use lib.Dec.{ltb, eqb}
 use lib.ListN.{length, getD}
 use Rattle.plane.specs.Choice.{pick}
+use Rattle.plane.specs.Lists.{Among}
 use Rattle.plane.proofs.Logic.{iff-turn, iff-join, iff-or}
 use Rattle.matrix.specs.Holding.{insert, linesOf}
 
 abbrev pub Rises : List ℕ → Type 0
 Rises l = (i j : ℕ) → i < j → j < length l → getD l i 0 < getD l j 0
-
-abbrev pub Among : ℕ → List ℕ → Type 0
-Among v l = (i : ℕ) × (i < length l) × (getD l i 0 ≡ v)
 
 or-right : {A B C : Type 0} → B ↔ C → (A ⊎ B) ↔ (A ⊎ C)
 or-right e = iff-or (λ a. a, λ a. a) e
