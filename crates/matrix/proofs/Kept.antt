@@ -24,7 +24,7 @@ use Rattle.plane.proofs.Logic.{clash, and-means}
 use Rattle.plane.proofs.Folds.{first-le, first-below, first-passes}
 use Rattle.plane.proofs.Lists.{length-tab, getD-tab, tab-all}
 use Rattle.matrix.specs.declared.Rising.{Rising}
-use Rattle.matrix.specs.declared.KeptGrid.{KeptGrid}
+use Rattle.matrix.specs.declared.GridLines.{GridLines}
 use Rattle.matrix.specs.Holding.{insert, linesOf, acrossLines, upLines, columnCount, rowCount, cellAt}
 use Rattle.matrix.specs.Kept.{padded, rising, linesIn, gridOf, cellIn, rectangleOf}
 use Rattle.matrix.proofs.Lines.{insert-most, lines-means, lines-most}
@@ -167,17 +167,17 @@ lines-number s lo hi lo' hi' e =
 grid-size : (a b : Box) → (rowCount a b ≤ 3) × (columnCount a b ≤ 3)
 grid-size a b = omega (arith, lines-most (a .west) (a .east) (b .west) (b .east), lines-most (a .south) (a .north) (b .south) (b .north))
 
-pub record Size (a b : Box) (g : KeptGrid) : Type 0 where
+pub record Size (a b : Box) (g : GridLines) : Type 0 where
   pub rows-are : g .rows ≡ rowCount a b
   pub columns-are : g .columns ≡ columnCount a b
   pub rows-few : g .rows ≤ 3
   pub columns-few : g .columns ≤ 3
 
-pub kept-size : (a b : Box) (g : KeptGrid) → g ≡ gridOf a b → Size a b g
+pub kept-size : (a b : Box) (g : GridLines) → g ≡ gridOf a b → Size a b g
 unfolding gridOf
 kept-size a b g e =
-    let r = ap (λ (g : KeptGrid). g .rows) e in
-    let k = ap (λ (g : KeptGrid). g .columns) e in
+    let r = ap (λ (g : GridLines). g .rows) e in
+    let k = ap (λ (g : GridLines). g .columns) e in
     let n = grid-size a b in
     record { rows-are = r; columns-are = k; rows-few = omega arith; columns-few = omega arith }
 

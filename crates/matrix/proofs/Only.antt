@@ -3,13 +3,13 @@
 use mathlib.Core.Path.{_≡_, sym, _∙_}
 use mathlib.Core.List.{List}
 use Prim.Native.Nat.{ℕ}
-use Rattle.matrix.specs.declared.KeptGrid.{KeptGrid}
+use Rattle.matrix.specs.declared.GridLines.{GridLines}
 use Rattle.matrix.proofs.grid_of.Reads as grid
 use Rattle.matrix.proofs.matrix_of.Reads as matrix
 use Rattle.matrix.proofs.flat_of.Reads as flat
 use Rattle.matrix.proofs.directions_of.Reads as directions
 
-pub grid-only : (κs : _) (a : _) (g g' : KeptGrid) (s s' : _) → grid.Post κs a g s → grid.Post κs a g' s' → g ≡ g'
+pub grid-only : (κs : _) (a : _) (g g' : GridLines) (s s' : _) → grid.Post κs a g s → grid.Post κs a g' s' → g ≡ g'
 grid-only κs a g g' s s' p q = p ∙ sym q
 
 pub matrix-only : (κs : _) (a : _) (m m' : List (List ℕ)) (s s' : _) → matrix.Post κs a m s → matrix.Post κs a m' s' → m ≡ m'

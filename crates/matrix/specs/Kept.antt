@@ -9,7 +9,7 @@ use lib.ListN.{length, getD}
 use Rattle.plane.specs.Lists.{tab}
 use Rattle.plane.specs.declared.Box.{Box}
 use Rattle.matrix.specs.declared.Rising.{Rising}
-use Rattle.matrix.specs.declared.KeptGrid.{KeptGrid}
+use Rattle.matrix.specs.declared.GridLines.{GridLines}
 use Rattle.matrix.specs.Holding.{acrossLines, upLines, columnCount, rowCount, Rectangle}
 
 abbrev pub padded : List ℕ → List ℕ
@@ -21,10 +21,10 @@ rising l = record { count = length l; at = padded l }
 abbrev pub linesIn : Rising → List ℕ
 linesIn k = tab (λ i. getD (k .at) i 0) (k .count)
 
-unfoldable pub gridOf : Box → Box → KeptGrid
+unfoldable pub gridOf : Box → Box → GridLines
 gridOf a b = record { rows = rowCount a b; columns = columnCount a b; up = padded (upLines a b); across = padded (acrossLines a b) }
 
-unfoldable pub cellIn : KeptGrid → (i j : ℕ) → Box
+unfoldable pub cellIn : GridLines → (i j : ℕ) → Box
 cellIn g i j =
     record {
       west = getD (g .across) j 0;

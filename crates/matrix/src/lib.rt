@@ -31,21 +31,21 @@ pub struct Rising {
 }
 
 // The grid of two boxes: the matrix's size, the lines from the south and the lines from the west.
-pub struct KeptGrid {
+pub struct GridLines {
     pub rows: u16,
     pub columns: u16,
     pub up: [u64; 4],
     pub across: [u64; 4],
 }
 
-pub fn grid_of(a: Box, b: Box) -> KeptGrid
+pub fn grid_of(a: Box, b: Box) -> GridLines
     ensures { λ g. ⌜ g ≡ gridOf a b ⌝ }
 {
     let y = lines_of(a.south, a.north, b.south, b.north);
     let x = lines_of(a.west, a.east, b.west, b.east);
     let up = y.at;
     let across = x.at;
-    KeptGrid {
+    GridLines {
         rows: (y.count - 1) as u16,
         columns: (x.count - 1) as u16,
         up,
@@ -54,7 +54,7 @@ pub fn grid_of(a: Box, b: Box) -> KeptGrid
 }
 
 // The cell in row i from the north and column j from the west.
-fn cell_at(g: KeptGrid, i: usize, j: usize) -> Box
+fn cell_at(g: GridLines, i: usize, j: usize) -> Box
     requires { ⌜ (i < g .rows) × (g .rows ≤ 3) × (j < 3) ⌝ }
     ensures { λ c. ⌜ c ≡ cellIn g i j ⌝ }
 {
@@ -110,7 +110,7 @@ fn value_of(first: bool, second: bool) -> u8
     FIRST * one_if(first) as u8 + SECOND * one_if(second) as u8
 }
 
-fn cell_value(g: KeptGrid, a: Box, b: Box, r: u16, s: u16, i: usize, j: usize) -> u8
+fn cell_value(g: GridLines, a: Box, b: Box, r: u16, s: u16, i: usize, j: usize) -> u8
     requires { ⌜ g ≡ gridOf a b ⌝ }
     ensures { λ v. ⌜ v ≡ cellValue a b r s i j ⌝ }
 {
@@ -124,7 +124,7 @@ fn cell_value(g: KeptGrid, a: Box, b: Box, r: u16, s: u16, i: usize, j: usize) -
     value_of(holds_region(a, b, r, cell), holds_region(b, a, s, cell))
 }
 
-fn matrix_row(g: KeptGrid, a: Box, b: Box, r: u16, s: u16, i: usize) -> [u8; 3]
+fn matrix_row(g: GridLines, a: Box, b: Box, r: u16, s: u16, i: usize) -> [u8; 3]
     requires { ⌜ g ≡ gridOf a b ⌝ }
     ensures { λ row. ⌜ row ≡ tab (λ j. cellValue a b r s i j) 3 ⌝ }
 {
@@ -136,7 +136,7 @@ fn matrix_row(g: KeptGrid, a: Box, b: Box, r: u16, s: u16, i: usize) -> [u8; 3]
 }
 
 // The matrix of two regions: a's box and its relation r to b's, b's box and its relation s to a's.
-pub fn matrix_of(g: KeptGrid, a: Box, b: Box, r: u16, s: u16) -> [[u8; 3]; 3]
+pub fn matrix_of(g: GridLines, a: Box, b: Box, r: u16, s: u16) -> [[u8; 3]; 3]
     requires { ⌜ g ≡ gridOf a b ⌝ }
     ensures { λ m. ⌜ m ≡ matrixOf a b r s ⌝ }
 {

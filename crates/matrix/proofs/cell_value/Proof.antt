@@ -2,7 +2,7 @@ use mathlib.Core.Path.{sym, ap, _∙_}
 use mathlib.Core.Logic.{inl, inr}
 use Prim.Native.Nat.{_<_}
 use native.Mathlib.Omega.{arith}
-use Rattle.matrix.specs.declared.KeptGrid.{KeptGrid}
+use Rattle.matrix.specs.declared.GridLines.{GridLines}
 use Rattle.matrix.specs.Holding.{rowCount, columnCount}
 use Rattle.matrix.specs.Kept.{cellIn, rectangleOf}
 use Rattle.matrix.proofs.Kept.{kept-size, cell-kept}
@@ -55,7 +55,7 @@ returns-3 c =
     let k : a .j < columnCount (a .a) (a .b) = omega arith in
     let e =
     ap rectangleOf (c .before .before .before .cell-at .ensures)
-    ∙ ap (λ (g : KeptGrid). rectangleOf (cellIn g (a .i) (a .j))) (s .pre)
+    ∙ ap (λ (g : GridLines). rectangleOf (cellIn g (a .i) (a .j))) (s .pre)
     ∙ cell-kept (a .a) (a .b) (a .i) (a .j) h k in
     c .value-of .ensures
     ∙ simp (c .before .before .holds-region .ensures, c .before .holds-region2 .ensures, e)
