@@ -6,11 +6,10 @@
 --   columns-size, rows-size    1 to 3 columns and rows where a box has room between its lines
 --   value-at          the matrix as an array has the values
 --   matrix-exchanged  the matrix of the pair exchanged is the matrix with 1 and 2 exchanged
---   whole-exchanged   the same of the whole array
 use mathlib.Core.Path.{_≡_, refl, _∙_, ap}
 use mathlib.Core.Logic.{_↔_, _⊎_, inl, inr}
 use mathlib.Core.Bool.{Bool, true, false, _&&_}
-use mathlib.Core.List.{List, [], map}
+use mathlib.Core.List.{List, []}
 use Prim.Native.Nat.{ℕ, _+_, _*_, _≤_, _<_}
 use native.Mathlib.Omega.{arith}
 use borrow.Author.Tests.{lt-ltb, le-ltb}
@@ -20,10 +19,10 @@ use lib.IntN.{ℤ}
 use Rattle.plane.specs.Choice.{pick}
 use Rattle.plane.specs.Points.{Lines}
 use Rattle.plane.specs.Placed.{LinesInRange, boxOf, Upright}
-use Rattle.plane.specs.Lists.{tabFrom, tab}
+use Rattle.plane.specs.Lists.{tab}
 use Rattle.plane.specs.TileSet.{one-if}
 use Rattle.plane.specs.declared.Box.{Box}
-use Rattle.plane.proofs.Lists.{getD-tab, tab-same}
+use Rattle.plane.proofs.Lists.{getD-tab}
 use Rattle.plane.proofs.TileSet.{one-le}
 use Rattle.matrix.specs.Grid.{Cell}
 use Rattle.matrix.specs.Holding.{Holds, columnCount, rowCount, cellAt, holds}
@@ -97,9 +96,3 @@ module _ (a b : Box) (r s : ℕ) where
       go true false true = refl
       go true false false = refl
       go false x y = refl
-
-  pub whole-exchanged : matrixOf b a s r ≡ map (map exchanged) (matrixOf a b r s)
-  unfolding matrixOf tabFrom
-  whole-exchanged =
-      tab-same (λ (i : ℕ). tab (λ (j : ℕ). cellValue b a s r i j) 3) (λ (i : ℕ). tab (λ (j : ℕ). exchanged (cellValue a b r s i j)) 3) 3
-      (λ i h. tab-same (λ (j : ℕ). cellValue b a s r i j) (λ (j : ℕ). exchanged (cellValue a b r s i j)) 3 (λ j k. matrix-exchanged i j))
