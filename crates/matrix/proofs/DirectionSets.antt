@@ -1,6 +1,7 @@
 -- Sets of directions made one at a time.
 --   one-bit       the set that holds k alone
 --   when-not, when-so     a set under a condition: empty, or that set
+--   among n k     one of the first n tests finds k
 --   union-none, union-more    the union of the sets of the first n tests, and one test more
 use mathlib.Core.Path.{_≡_, refl, sym, _∙_}
 use mathlib.Core.Bool.{Bool, true, false, _&&_, _||_}

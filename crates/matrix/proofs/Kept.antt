@@ -1,10 +1,12 @@
 -- The grid as a struct keeps it: what stands in its places, and one line more.
 --   padded-at       the places hold the lines, and 0 past them
 --   lines-kept      a struct made of a list stands for that list
+--   Made s l n      the struct s is made of the list l, which has at most n lines
 --   made-room, made-next      a struct with room for one line more, and that line put in
 --   kept-same       a line that stands at its place: the struct stays
 --   kept-more       a line that does not: it goes in at its place, and what stands from there on moves up
 --   lines-number    one to four lines
+--   Size a b g      the grid g has the matrix's size
 --   kept-size       a grid has the matrix's size, at most three rows and columns
 --   cell-kept       the cell read from the grid is the cell of the two boxes
 use mathlib.Core.Path.{_≡_, refl, sym, _∙_, ap}
