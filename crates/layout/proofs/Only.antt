@@ -1,5 +1,5 @@
 -- No second answer fits: two answers that meet the contract of a function for the same arguments are equal, with the lists at exit.
---   wrong-tables-only .. cell-only       the answer
+--   wrong-tables-only, wrong-lists-only, ring-count-only, is-empty-only, whole-number-only, change-number-only, cell-only    the answer
 --   ends-only, outline-only              the numbers of the part
 --   row-only                             the cells and the place at which the part begins
 --   clear-only, write-only               the three lists

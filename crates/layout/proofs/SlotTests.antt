@@ -1,6 +1,6 @@
 -- The tests of one slot in the order in which they are made: each answer that ends them is that of rule 12.
 --   none, many             the slot is empty; it has too many rings
---   Looked xs records i    it is neither, so its ring ends may be read
+--   Looked xs records i    it is neither;  counted  so its ring ends may be read
 --   short, high, outside   a ring is short; the last end is too high; or else whether a coordinate lies outside
 --   outlined, sizes-kept   what is known when the coordinates are looked at
 use mathlib.Core.Path.{_≡_, refl, sym}

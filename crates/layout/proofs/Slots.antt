@@ -1,9 +1,10 @@
 -- What is read from the slots of any sheet.
+--   keeps-sized     a region that keeps rules 1 to 4 has its sizes;  few-rings, few-vertices  a parcel that does has as few as it may
 --   parcel-empty, parcel-there    what stands in a slot that is empty, and in one that is not
 --   occupied-in, ends-in, coordinates-in    whether a parcel is there, its ring ends and its coordinates, by the lists
 --   rings-length, coordinates-length    how many of them there are
---   Lies s i p      the numbers of slot i are those of the parcel p;  parcel-read  then p is read there
---   Agree s t i     two sheets have the same numbers in slot i;  parcel-same  then the same parcel is read there
+--   Lies s i p      the numbers of slot i are those of the parcel p;  rings-read, parcel-read  then its ring count and p are read there
+--   Agree s t i     two sheets have the same numbers in slot i;  rings-same, parcel-same  then the same ring count and parcel are read there
 use mathlib.Core.Path.{_≡_, refl, sym, ap, _∙_}
 use mathlib.Core.Logic.{_≢_}
 use mathlib.Core.Bool.{Bool, true, false, not}

@@ -1,6 +1,7 @@
--- Rule 12.
+-- Rule 12 (SCOPE 7.5).
 --   undamaged-at      a slot is undamaged exactly where its ring count is at most 8 and what stands there keeps rules 1 to 4
 --   undamaged-means   the tests of rule 12 find nothing exactly where the sheet is undamaged in the document's words
+--   slot-lists        the lists in which the outlines lie have their lengths
 --   undamaged-stand   what stands on an undamaged sheet may stand;  stand-undamaged  and back;  undamaged-whole  so it may be read
 use mathlib.Core.Path.{_≡_, refl, sym, subst}
 use mathlib.Core.Logic.{_↔_}
