@@ -1,4 +1,3 @@
-mod Signs
 mod Round
 mod Pass
 mod Parts

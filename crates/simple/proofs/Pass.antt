@@ -29,8 +29,8 @@ use Rattle.ring.specs.Turning.{forward, backward, clockwise}
 use Rattle.ring.proofs.Edges.{cycle, ring-edge-in-places}
 use Rattle.simple.specs.declared.Scan.{Scan}
 use Rattle.simple.specs.Parts.{edgeBefore, folded, scanOf}
-use Rattle.simple.specs.Signs.{productOf, inLine, turnsBack}
-use Rattle.simple.proofs.Signs.{diff-product, not-less, or-false}
+use Rattle.meet.specs.Signs.{productOf, inLine, turnsBack}
+use Rattle.meet.proofs.Signs.{diff-product, not-less, or-false}
 use Rattle.simple.proofs.Round.{end-start}
 
 -- ---- tests joined edge by edge

@@ -1,4 +1,3 @@
 pub mod Faults
-pub mod Signs
 pub mod Parts
 pub mod Layout

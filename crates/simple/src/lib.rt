@@ -5,13 +5,13 @@ ghost use mathlib.Core.Path.{_≡_};
 ghost use Prim.Native.Nat.{_+_, _≤_, _<_, min, max};
 ghost use lib.ListN.{length};
 ghost use Rattle.plane.specs.Placed.{EdgeInPlaces};
-ghost use Rattle.meet.specs.MeetTest.{overlap, ends-apart, shares, one-side};
+ghost use Rattle.meet.specs.MeetTest.{shares};
+ghost use Rattle.meet.specs.Signs.{productOf};
 ghost use Rattle.ring.specs.Edges.{ringEdge};
 ghost use Rattle.ring.specs.Stretch.{Stretch};
 ghost use Rattle.ring.specs.Repeated.{equalEnds};
 ghost use Rattle.bands.specs.Bands.{bands, mostEdges, Laid};
 ghost use Rattle.simple.specs.Faults.{faultsOf};
-ghost use Rattle.simple.specs.Signs.{productOf, sideOf, together, inLine, turnsBack};
 ghost use Rattle.simple.specs.Parts.{edgeBefore, pastStrangers, meetPair, meetsWith, meets, scanOf, Candidates};
 ghost use Rattle.simple.specs.Layout.{small, LaidOut, rangesApart};
 use bands::BANDS;
@@ -19,9 +19,11 @@ use bands::MOST_EDGES;
 use bands::found_near;
 use bands::lay_bands;
 use bands::place_in;
+use meet::in_line;
+use meet::product;
+use meet::shares;
+use meet::turns_back;
 use plane::Edge;
-use plane::greater;
-use plane::lesser;
 use plane::place_at;
 use ring::next_of;
 use ring::ring_edge;
@@ -42,76 +44,6 @@ struct Scan {
     repeated: bool,
     folded: bool,
     turned: bool,
-}
-
-// The product of two differences of places: it may be negative, and is far from what an i64 can hold.
-fn product(a: u64, b: u64, c: u64, d: u64) -> i64
-    requires { ⌜ (a ≤ 4000000) × (b ≤ 4000000) × (c ≤ 4000000) × (d ≤ 4000000) ⌝ }
-    ensures { λ r. ⌜ r ≡ productOf a b c d ⌝ }
-{
-    (a as i64 - b as i64) * (c as i64 - d as i64)
-}
-
-// Above 0 where the point lies left of the edge's line, below 0 where it lies right of it.
-fn side(g: Edge, x: u64, y: u64) -> i64
-    requires { ⌜ EdgeInPlaces g × (x ≤ 2000000) × (y ≤ 2000000) ⌝ }
-    ensures { λ r. ⌜ r ≡ sideOf g x y ⌝ }
-{
-    product(g.bx, g.ax, y, g.ay) - product(g.by, g.ay, x, g.ax)
-}
-
-fn together(p: i64, q: i64) -> bool
-    ensures { λ r. ⌜ r ≡ together p q ⌝ }
-{
-    ((0 < p) & (0 < q)) | ((p < 0) & (q < 0))
-}
-
-// Are the ends of h not both strictly on one side of g?
-fn ends_apart(g: Edge, h: Edge) -> bool
-    requires { ⌜ EdgeInPlaces g × EdgeInPlaces h ⌝ }
-    ensures { λ r. ⌜ r ≡ ends-apart g h ⌝ }
-{
-    !together(side(g, h.ax, h.ay), side(g, h.bx, h.by))
-}
-
-fn overlap(a: u64, b: u64, c: u64, d: u64) -> bool
-    ensures { λ r. ⌜ r ≡ overlap a b c d ⌝ }
-{
-    (lesser(a, b) <= greater(c, d)) & (lesser(c, d) <= greater(a, b))
-}
-
-// Asked of edges that are near each other, so the products come first.
-fn shares(g: Edge, h: Edge) -> bool
-    requires { ⌜ EdgeInPlaces g × EdgeInPlaces h ⌝ }
-    ensures { λ r. ⌜ r ≡ shares g h ⌝ }
-{
-    if !ends_apart(g, h) {
-        return false;
-    }
-    if !ends_apart(h, g) {
-        return false;
-    }
-    overlap(g.ax, g.bx, h.ax, h.bx) & overlap(g.ay, g.by, h.ay, h.by)
-}
-
-// Does edge h, which goes on where g ends, end on g's line? An edge of no length does.
-fn in_line(g: Edge, h: Edge) -> bool
-    requires { ⌜ EdgeInPlaces g × EdgeInPlaces h × (h .ax ≡ g .bx) × (h .ay ≡ g .by) ⌝ }
-    ensures { λ r. ⌜ r ≡ inLine g h ⌝ }
-{
-    product(g.bx, g.ax, h.by, h.ay) == product(g.by, g.ay, h.bx, h.ax)
-}
-
-fn one_side(a: u64, b: u64, c: u64) -> bool
-    ensures { λ r. ⌜ r ≡ one-side a b c ⌝ }
-{
-    ((a < b) & (c < b)) | ((b < a) & (b < c))
-}
-
-fn turns_back(g: Edge, h: Edge) -> bool
-    ensures { λ r. ⌜ r ≡ turnsBack g h ⌝ }
-{
-    one_side(g.ax, g.bx, h.bx) | one_side(g.ay, g.by, h.by)
 }
 
 fn equal_ends(g: Edge) -> bool

@@ -14,7 +14,7 @@ use Rattle.plane.proofs.Difference.{Diff}
 use Rattle.ring.specs.Edges.{ringEdge}
 use Rattle.ring.proofs.Stretch.{edge-in-places}
 use Rattle.simple.specs.Parts.{edgeBefore}
-use Rattle.simple.proofs.Signs.{fits}
+use Rattle.meet.proofs.Signs.{fits}
 use Rattle.simple.proofs.Round.{before-first, before-next, before-lt}
 use Rattle.simple.proofs.Pass.{equalAt, foldAt, plusTo, minusTo, goes-on, shown-in-line, shown-apart, turn-more, turns-fit, all-scanned}
 use borrow.Author.Needs.{needs}

@@ -3,10 +3,10 @@ use lib.Dec.{eqb}
 use lib.IntN.{ℤ}
 use mir.Syntax.{w64}
 use mir.Val.{ofZ}
-use Rattle.simple.proofs.Signs.{line-is}
+use Rattle.meet.proofs.Signs.{line-is}
 use borrow.Author.Needs.{needs}
-use Rattle.simple.proofs.in_line.Statement.{statement}
-use Rattle.simple.proofs.in_line.Tie as tie
+use Rattle.meet.proofs.in_line.Statement.{statement}
+use Rattle.meet.proofs.in_line.Tie as tie
 
 product-requires : tie.Need-product-requires
 product-requires c κs = search needs

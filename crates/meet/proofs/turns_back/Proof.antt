@@ -1,7 +1,7 @@
-use Rattle.simple.specs.Signs.{turnsBack}
+use Rattle.meet.specs.Signs.{turnsBack}
 use borrow.Author.Needs.{needs}
-use Rattle.simple.proofs.turns_back.Statement.{statement}
-use Rattle.simple.proofs.turns_back.Tie as tie
+use Rattle.meet.proofs.turns_back.Statement.{statement}
+use Rattle.meet.proofs.turns_back.Tie as tie
 
 one-side-requires : tie.Need-one-side-requires
 one-side-requires c κs = search needs

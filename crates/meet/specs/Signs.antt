@@ -1,4 +1,4 @@
--- No rule of docs/SCOPE.md stands here: the tests of meet/specs/MeetTest by signs of whole numbers, as the code computes them.
+-- No rule of docs/SCOPE.md stands here: the tests of specs/MeetTest by signs of whole numbers, as the code computes them.
 --   productOf a b c d    (a - b) · (c - d)
 --   sideOf g x y         above 0 where the point lies left of the edge's line, below 0 where it lies right of it
 --   together p q         both are above 0, or both below

@@ -1,8 +1,10 @@
 -- Signs of whole numbers, and the tests in places that they answer.
 --   fits          a difference of two numbers that are small enough fits an i64
---   diff-less, diff-product    a difference of places, and a product of two of them, as differences of naturals
+--   diff-sub, diff-less, diff-product    a difference of two, of places, and a product of two of them, as differences of naturals
+--   plus, minus, diff-side    what the code adds and subtracts for the side of a point
 --   side-is       the two products that the code subtracts make the side
 --   line-is       an edge that goes on from another is in line with it exactly where the two products are equal
+--   not-less, or-false    tests turned
 --   apart-is      two points are not both strictly on one side exactly where their sides are not together
 use mathlib.Core.Path.{_≡_, refl, sym, _∙_, ap}
 use mathlib.Core.Logic.{_↔_}
@@ -20,8 +22,8 @@ use mir.Facts.{toZ-ofZ}
 use Rattle.plane.specs.declared.Edge.{Edge}
 use Rattle.plane.proofs.Logic.{both, both-ltb, eq-means, iff-join, iff-turn}
 use Rattle.plane.proofs.Difference.{Diff, diff-pos, diff-add, diff-neg, diff-mul, diff-negative, diff-lt, diff-move, diff-eq, diff-same}
 use Rattle.meet.specs.MeetTest.{leftward, rightward, straddles}
-use Rattle.simple.specs.Signs.{productOf, sideOf, together, inLine}
+use Rattle.meet.specs.Signs.{productOf, sideOf, together, inLine}
 
 pub fits : (z : ℤ) (u v : ℕ) → Diff z u v → u < 9223372036854775808 → v < 9223372036854775808 → SFits w64 z
 fits (pos n) u v h p q = record { sfits = omega arith }

@@ -1,7 +1,7 @@
 use mir.Facts.{toZ-ofZ}
-use Rattle.simple.specs.Signs.{together}
-use Rattle.simple.proofs.together.Statement.{statement}
-use Rattle.simple.proofs.together.Tie as tie
+use Rattle.meet.specs.Signs.{together}
+use Rattle.meet.proofs.together.Statement.{statement}
+use Rattle.meet.proofs.together.Tie as tie
 
 returns : tie.Need-returns
 unfolding together

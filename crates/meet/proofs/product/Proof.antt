@@ -7,11 +7,11 @@ use lib.IntN.{ℤ, pos, _-ℤ_}
 use mir.Syntax.{w64}
 use mir.Val.{SFits, toZ, ofZ}
 use mir.Facts.{toZ-ofZ, toZ-pos}
-use Rattle.simple.specs.Signs.{productOf}
-use Rattle.simple.proofs.Signs.{fits, diff-less, diff-product}
+use Rattle.meet.specs.Signs.{productOf}
+use Rattle.meet.proofs.Signs.{fits, diff-less, diff-product}
 use borrow.Author.Needs.{needs}
-use Rattle.simple.proofs.product.Statement.{statement}
-use Rattle.simple.proofs.product.Tie as tie
+use Rattle.meet.proofs.product.Statement.{statement}
+use Rattle.meet.proofs.product.Tie as tie
 
 -- a difference, as the code has it
 module _ (a b : ℕ) (ha : a ≤ 4000000) (hb : b ≤ 4000000) where

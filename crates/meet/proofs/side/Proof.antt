@@ -8,11 +8,11 @@ use mir.Val.{SFits, toZ, ofZ}
 use mir.Facts.{toZ-ofZ}
 use Rattle.plane.specs.declared.Edge.{Edge}
 use Rattle.plane.specs.Placed.{EdgeInPlaces}
-use Rattle.simple.specs.Signs.{productOf}
-use Rattle.simple.proofs.Signs.{fits, plus, minus, diff-side, side-is}
+use Rattle.meet.specs.Signs.{productOf}
+use Rattle.meet.proofs.Signs.{fits, plus, minus, diff-side, side-is}
 use borrow.Author.Needs.{needs}
-use Rattle.simple.proofs.side.Statement.{statement}
-use Rattle.simple.proofs.side.Tie as tie
+use Rattle.meet.proofs.side.Statement.{statement}
+use Rattle.meet.proofs.side.Tie as tie
 
 -- the two products, as the code has them
 subtracted : (c : tie.After-product2)
