@@ -80,8 +80,9 @@ fn relation_of(first: &[i32], first_ends: &[u16], second: &[i32], second_ends: &
     requires { ⌜ Keeps 4 (regionOf (now first) (now «first_ends»)) × Keeps 4 (regionOf (now second) (now «second_ends»)) ⌝ }
     ensures { λ r. ⌜ r ≡ relationOf (regionBox (regionOf (now (second .entry)) (now («second_ends» .entry)))) (regionOf (now (first .entry)) (now («first_ends» .entry))) ⌝ }
 {
+    let own = region_box(first, first_ends);
     let b = region_box(second, second_ends);
-    let seen = region_seen(b, first, first_ends);
+    let seen = region_seen(b, own, first, first_ends);
     seen.set
 }
 

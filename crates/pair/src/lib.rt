@@ -94,8 +94,8 @@ fn answer_of(first: &[i32], first_ends: &[u16], second: &[i32], second_ends: &[u
 {
     let a = region_box(first, first_ends);
     let b = region_box(second, second_ends);
-    let there = region_seen(b, first, first_ends);
-    let back = region_seen(a, second, second_ends);
+    let there = region_seen(b, a, first, first_ends);
+    let back = region_seen(a, b, second, second_ends);
     if there.set == 0 {
         return refused(NO_TILE, 1, 0);
     }

@@ -18,7 +18,7 @@ pub extern "C" fn trial_check(outline: &[i32], ends: &[u16]) -> u32 {
     }
 }
 
-// The relation of the first region to the second, and 65,536 times the pieces of the first. The second's box is found here.
+// The relation of the first region to the second, and 65,536 times the pieces of the first. Both boxes are found here.
 #[no_mangle]
 pub extern "C" fn trial_relation(
     first: &[i32],
@@ -28,8 +28,9 @@ pub extern "C" fn trial_relation(
 ) -> u32
     requires { ⌜ Keeps 4 (regionOf (now first) (now «first_ends»)) × Keeps 4 (regionOf (now second) (now «second_ends»)) ⌝ }
 {
+    let own = region_box(first, first_ends);
     let b = region_box(second, second_ends);
-    let seen = region_seen(b, first, first_ends);
+    let seen = region_seen(b, own, first, first_ends);
     seen.set as u32 + 65536 * seen.pieces as u32
 }
 

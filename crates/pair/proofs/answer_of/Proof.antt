@@ -72,13 +72,13 @@ region-seen-requires : tie.Need-region-seen-requires
 region-seen-requires c κs =
     let p = c .before .before .before .before .pre in
     let t = box-there (c .region-box2 .ensures) (p .1) in
-    (t .0, t .1, p .0)
+    (t .0, t .1, p .0, c .before .region-box .ensures)
 
 region-seen-requires-2 : tie.Need-region-seen-requires-2
 region-seen-requires-2 c κs =
     let p = c .before .before .before .before .before .pre in
     let t = box-there (c .before .before .region-box .ensures) (p .0) in
-    (t .0, t .1, p .1)
+    (t .0, t .1, p .1, c .before .region-box2 .ensures)
 
 refused-requires : tie.Need-refused-requires
 refused-requires c κs = search needs

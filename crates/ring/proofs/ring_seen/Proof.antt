@@ -10,12 +10,14 @@ use borrow.Author.Needs.{needs}
 use borrow.Author.Tests.{not-true, not-false}
 use Rattle.plane.specs.declared.Box.{Box}
 use Rattle.plane.specs.TileSet.{setOf, bit}
+use Rattle.plane.proofs.Logic.{clash, is-false}
 use Rattle.plane.proofs.TileSet.{set-means}
 use Rattle.ring.specs.declared.Seen.{Seen}
 use Rattle.ring.specs.RingBox.{stretchBox, covers}
 use Rattle.ring.specs.Enclosed.{encloses}
 use Rattle.ring.specs.RingTiles.{edgesHave, ringHas}
 use Rattle.ring.specs.RingSeen.{edgesSeen, ringSeen}
+use Rattle.ring.proofs.RingBox.{covers-through}
 use Rattle.ring.proofs.Pass.{without-centre, there-already, with-centre}
 use Rattle.ring.proofs.ring_seen.Statement.{statement}
 use Rattle.ring.proofs.ring_seen.Tie as tie
@@ -57,25 +59,39 @@ module _ (c : tie.After-edges-seen) where
 returns : tie.Need-returns
 returns c = already (c .before .before) (c .if1 .taken)
 
-stretch-box-requires : tie.Need-stretch-box-requires
-stretch-box-requires c κs = search needs
-
 covers-box-requires : tie.Need-covers-box-requires
 covers-box-requires c κs = search needs
 
--- ---- with whether the ring covers the box
-module _ (c : tie.After-covers-box) where
-  abbrev edges : tie.After-edges-seen
-  edges = c .before .before .before .before
-
-  covering : c .covers-box .result ≡ covers (stretchBox (xs edges) (from edges) (n edges)) (b edges)
-  covering = c .covers-box .ensures ∙ ap (λ (k : Box). covers k (b edges)) (c .before .stretch-box .ensures)
-
+-- where the box handed over does not cover b, the ring's own does not
 returns-2 : tie.Need-returns-2
 returns-2 c =
     let v = c .before in
+    let e = v .before .before .before in
+    let s = e .before in
+    let far : covers (s .args .own) (b e) ≡ false = sym (v .covers-box .ensures) ∙ not-true (v .covers-box .result) (c .if2 .taken) in
+    let none : covers (stretchBox (xs e) (from e) (n e)) (b e) ≡ false =
+    is-false _ (λ h. clash _ (covers-through (s .args .own) (stretchBox (xs e) (from e) (n e)) (b e) (s .pre .4) h) far) in
+    same-set e (without-centre (b e) (xs e) (from e) (n e) (rw none refl))
+
+stretch-box-requires : tie.Need-stretch-box-requires
+stretch-box-requires c κs = search needs
+
+covers-box-requires-2 : tie.Need-covers-box-requires-2
+covers-box-requires-2 c κs = search needs
+
+-- ---- with whether the ring covers the box
+module _ (c : tie.After-covers-box2) where
+  abbrev edges : tie.After-edges-seen
+  edges = c .before .before .before .before .before .before
+
+  covering : c .covers-box2 .result ≡ covers (stretchBox (xs edges) (from edges) (n edges)) (b edges)
+  covering = c .covers-box2 .ensures ∙ ap (λ (k : Box). covers k (b edges)) (c .before .stretch-box .ensures)
+
+returns-3 : tie.Need-returns-3
+returns-3 c =
+    let v = c .before in
     let e = edges v in
-    same-set e (without-centre (b e) (xs e) (from e) (n e) (rw (sym (covering v) ∙ not-true (v .covers-box .result) (c .if2 .taken)) refl))
+    same-set e (without-centre (b e) (xs e) (from e) (n e) (rw (sym (covering v) ∙ not-true (v .covers-box2 .result) (c .if3 .taken)) refl))
 
 ring-encloses-requires : tie.Need-ring-encloses-requires
 ring-encloses-requires c κs = search needs
@@ -83,18 +99,18 @@ ring-encloses-requires c κs = search needs
 -- ---- with whether it encloses the centre
 module _ (c : tie.After-ring-encloses) where
   covered : let e = edges (c .before .before) in covers (stretchBox (xs e) (from e) (n e)) (b e) ≡ true
-  covered = let v = c .before .before in sym (covering v) ∙ not-false (v .covers-box .result) (c .before .if2 .left)
-
-returns-3 : tie.Need-returns-3
-returns-3 c =
-    let r = c .before in
-    let e = edges (r .before .before) in
-    same-set e (without-centre (b e) (xs e) (from e) (n e) (rw (covered r, sym (r .ring-encloses .ensures) ∙ not-true (r .ring-encloses .result) (c .if3 .taken)) refl))
+  covered = let v = c .before .before in sym (covering v) ∙ not-false (v .covers-box2 .result) (c .before .if3 .left)
 
 returns-4 : tie.Need-returns-4
 returns-4 c =
+    let r = c .before in
+    let e = edges (r .before .before) in
+    same-set e (without-centre (b e) (xs e) (from e) (n e) (rw (covered r, sym (r .ring-encloses .ensures) ∙ not-true (r .ring-encloses .result) (c .if4 .taken)) refl))
+
+returns-5 : tie.Need-returns-5
+returns-5 c =
     let r = c .before .before in
-    with-b (edges (r .before .before)) (covered r) (sym (r .ring-encloses .ensures) ∙ not-false (r .ring-encloses .result) (c .before .if3 .left))
+    with-b (edges (r .before .before)) (covered r) (sym (r .ring-encloses .ensures) ∙ not-false (r .ring-encloses .result) (c .before .if4 .left))
 
 pub ring-seen-spec : {M : Type 1} → statement M
 ring-seen-spec =
@@ -102,9 +118,11 @@ ring-seen-spec =
     (tie.spec
     edges-seen-requires
     returns
-    stretch-box-requires
     covers-box-requires
     returns-2
-    ring-encloses-requires
+    stretch-box-requires
+    covers-box-requires-2
     returns-3
-    returns-4)
+    ring-encloses-requires
+    returns-4
+    returns-5)

@@ -10,13 +10,16 @@ use Rattle.relation.proofs.region_box.Reads as region-box-reads
 use Rattle.relation.proofs.region_seen.Reads as region-seen-reads
 
 region-box-requires : tie.Need-region-box-requires
-region-box-requires c κs = c .before .before .pre .1
+region-box-requires c κs = c .before .before .pre .0
+
+region-box-requires-2 : tie.Need-region-box-requires-2
+region-box-requires-2 c κs = c .before .before .before .pre .1
 
 region-seen-requires : tie.Need-region-seen-requires
 region-seen-requires c κs =
-    let s = c .before .before .before in
-    let e = sym (c .region-box .ensures) in
-    (subst BoxInPlaces e (region-box-in-places (s .pre .1)), subst Upright e (region-upright _), s .pre .0)
+    let s = c .before .before .before .before in
+    let e = sym (c .region-box2 .ensures) in
+    (subst BoxInPlaces e (region-box-in-places (s .pre .1)), subst Upright e (region-upright _), s .pre .0, c .before .region-box .ensures)
 
 cast-result : tie.Need-cast-result
 cast-result c = search needs
@@ -38,6 +41,7 @@ trial-relation-spec =
     tie.close
     (tie.spec
     region-box-requires
+    region-box-requires-2
     region-seen-requires
     cast-result
     cast-result-2
