@@ -11,6 +11,7 @@ pub mod Renewed
 pub mod Standing
 pub mod Blank
 mod SlotCells
+pub mod BoxList
 pub mod Steps
 pub mod Rows
 pub mod Only

@@ -2,12 +2,14 @@
 --   outline-parcel   the two lists of a region that keeps rules 1 to 4 are an outline
 --   ends-few         the ring ends that are written are few
 --   whole-written    once the room and the record are written, the slots may be read
+--   boxed-written    and where the boxes of what stood were at hand, those of what then stands are
 --   written          once the row and the column are written too, it is the sheet with that parcel in its slot
-use mathlib.Core.Path.{_≡_, refl, sym, ap₂, _∙_, subst₂}
+use mathlib.Core.Path.{_≡_, refl, sym, ap₂, _∙_, subst, subst₂}
 use mathlib.Core.Bool.{Bool, true, false, _&&_, _||_}
 use mathlib.Core.List.{List, []}
 use Prim.Native.Nat.{ℕ, _+_, _*_, _/_, _%_, _<_, _≤_}
 use native.Mathlib.Omega.{arith}
+use native.Mathlib.Decide.{ℕ-discrete}
 use lib.Dec.{eqb}
 use lib.IntN.{ℤ, pos}
 use lib.ListN.{length, getD}
@@ -20,14 +22,17 @@ use Rattle.plane.proofs.Logic.{and-means}
 use Rattle.plane.proofs.Lists.{tab-same}
 use Rattle.outline.specs.Region.{Region, Parcel, nothing, outline, mostRings}
 use Rattle.outline.specs.Rules.{Keeps}
+use Rattle.relation.specs.Relation.{regionBox}
 use Rattle.layout.specs.Sheet.{Sheet, sheetOf, slots, room, recordLength, relationsLength}
 use Rattle.layout.specs.Standing.{endList, coordinateList, instead}
 use Rattle.layout.specs.Layout.{recordNumber, cellOf}
 use Rattle.layout.specs.Slots.{inSlot, parcelAt}
 use Rattle.layout.specs.Changes.{withParcel}
 use Rattle.layout.specs.Steps.{Whole, Ready, parcelOf, cellFor, crossed}
+use Rattle.layout.specs.BoxList.{boxAt, boxFound, Boxed}
 use Rattle.layout.proofs.Blocks.{stores-block}
 use Rattle.layout.proofs.Cross.{cross-tab}
+use Rattle.layout.proofs.BoxList.{found-length, found-own, found-other}
 use Rattle.layout.proofs.Slots.{keeps-sized, few-rings}
 use Rattle.layout.proofs.Undamaged.{undamaged-whole}
 use Rattle.layout.proofs.Written.{with-lists, with-undamaged, parcel-standing}
@@ -91,6 +96,14 @@ module _ (s : Sheet) (i : ℕ) (R : Region) (ready : Ready s i (parcelOf R)) whe
     parcel-there : (k : ℕ) → k < slots → inSlot xs records k ≡ instead (parcelAt s) i (parcelOf R) k
     unfolding after
     parcel-there k l = ap₂ (λ (a : List ℤ) (b : List ℕ). inSlot a b k) numbers-written entries-written ∙ parcel-standing s i (parcelOf R) ready k l
+
+    pub boxed-written : {old new : List ℕ} → Boxed old (s .coordinates) (s .records) → new ≡ boxFound xs records i old → Boxed new xs records
+    boxed-written {old} boxed e =
+        subst (λ (l : List ℕ). Boxed l xs records) (sym e) (record { listed = found-length xs records i old ∙ boxed .listed; each = λ k l Q q. go k l Q q (ℕ-discrete k i) })
+      where
+        go : (k : ℕ) → k < slots → (Q : Region) → inSlot xs records k ≡ outline Q → Dec (k ≡ i) → boxAt (boxFound xs records i old) k ≡ regionBox Q
+        go k l Q q (yes p) = rw p (found-own xs records i old (boxed .listed) (ready .change .slot-in) Q (rw p at q))
+        go k l Q q (no p) = found-other xs records i old k p ∙ boxed .each k l Q (sym (parcel-there k l ∙ simp (ne-eqb k i p)) ∙ q)
 
     cells-written : {relations : List ℕ} → relations ≡ turns (crossed (cellFor xs records) i) slots (s .relations) → relations ≡ after .relations
     unfolding withParcel after

@@ -5,3 +5,4 @@ pub mod Slots
 pub mod Damage
 pub mod Changes
 pub mod Steps
+pub mod BoxList

@@ -1,4 +1,6 @@
 // A parcel into its slot: its room, its record, its row and its column.
+//   write_parcel    with every box found first
+//   write_among     with the boxes of what stands at hand, for one parcel after another
 ghost use mathlib.Core.Path.{_≡_};
 ghost use Prim.Native.Nat.{_+_, _*_, _≤_, _<_};
 ghost use lib.IntN.{pos};
@@ -6,19 +8,21 @@ ghost use lib.ListN.{length, getD};
 ghost use Rattle.plane.specs.Folds.{turns};
 ghost use Rattle.plane.specs.Lists.{stores};
 ghost use Rattle.outline.specs.Region.{regionOf, mostRings};
-ghost use Rattle.outline.specs.Rules.{Keeps};
-ghost use Rattle.relation.specs.Relation.{regionBox, relationOf};
 ghost use Rattle.layout.specs.Sheet.{sheetOf, slots, room, recordLength, coordinatesLength, recordsLength, relationsLength};
 ghost use Rattle.layout.specs.Layout.{recordNumber};
 ghost use Rattle.layout.specs.Changes.{withParcel};
 ghost use Rattle.layout.specs.Steps.{Whole, Ready, parcelOf, cellFor, crossed};
+ghost use Rattle.layout.specs.BoxList.{Boxed};
+use crate::boxes::BOXES;
+use crate::boxes::box_at;
+use crate::boxes::find_box;
+use crate::boxes::find_boxes;
 use crate::lists::RECORD;
 use crate::lists::ROOM;
 use crate::lists::SLOTS;
 use crate::storage::ends_at;
 use crate::storage::is_empty;
 use crate::storage::outline_at;
-use relation::region_box;
 use relation::region_seen;
 
 // The cell of a parcel with itself: B.
@@ -75,20 +79,9 @@ fn write_record(records: &mut [u16], slot: usize, ends: &[u16])
     }
 }
 
-// The relation of the first region to the second: the tiles that it has of the second's box.
-fn relation_of(first: &[i32], first_ends: &[u16], second: &[i32], second_ends: &[u16]) -> u16
-    requires { ⌜ Keeps 4 (regionOf (now first) (now «first_ends»)) × Keeps 4 (regionOf (now second) (now «second_ends»)) ⌝ }
-    ensures { λ r. ⌜ r ≡ relationOf (regionBox (regionOf (now (second .entry)) (now («second_ends» .entry)))) (regionOf (now (first .entry)) (now («first_ends» .entry))) ⌝ }
-{
-    let own = region_box(first, first_ends);
-    let b = region_box(second, second_ends);
-    let seen = region_seen(b, own, first, first_ends);
-    seen.set
-}
-
 // The cell that belongs to two slots.
-fn cell_for(xs: &[i32], records: &[u16], primary: usize, reference: usize) -> u16
-    requires { ⌜ Whole (now xs) (now records) × (primary < slots) × (reference < slots) ⌝ }
+fn cell_for(xs: &[i32], records: &[u16], boxes: &[u32], primary: usize, reference: usize) -> u16
+    requires { ⌜ Whole (now xs) (now records) × Boxed (now boxes) (now xs) (now records) × (primary < slots) × (reference < slots) ⌝ }
     ensures { λ r. ⌜ r ≡ cellFor (now (xs .entry)) (now (records .entry)) primary reference ⌝ }
 {
     if is_empty(records, primary) {
@@ -100,20 +93,28 @@ fn cell_for(xs: &[i32], records: &[u16], primary: usize, reference: usize) -> u1
     if primary == reference {
         return SELF_CELL;
     }
-    let first = outline_at(xs, records, primary);
-    let first_ends = ends_at(records, primary);
-    let second = outline_at(xs, records, reference);
-    let second_ends = ends_at(records, reference);
-    relation_of(first, first_ends, second, second_ends)
+    let own = box_at(boxes, primary);
+    let b = box_at(boxes, reference);
+    let outline = outline_at(xs, records, primary);
+    let ends = ends_at(records, primary);
+    let seen = region_seen(b, own, outline, ends);
+    seen.set
 }
 
 // The cells of two slots, each way round.
-fn relate_one(xs: &[i32], records: &[u16], relations: &mut [u16], slot: usize, k: usize)
-    requires { ⌜ Whole (now xs) (now records) × (length (now relations) ≡ relationsLength) × (slot < slots) × (k < slots) ⌝ }
+fn relate_one(
+    xs: &[i32],
+    records: &[u16],
+    boxes: &[u32],
+    relations: &mut [u16],
+    slot: usize,
+    k: usize,
+)
+    requires { ⌜ Whole (now xs) (now records) × Boxed (now boxes) (now xs) (now records) × (length (now relations) ≡ relationsLength) × (slot < slots) × (k < slots) ⌝ }
     ensures { λ _. ⌜ now (relations .exit) ≡ crossed (cellFor (now (xs .entry)) (now (records .entry))) slot k (now (relations .entry)) ⌝ }
 {
-    let row = cell_for(xs, records, slot, k);
-    let column = cell_for(xs, records, k, slot);
+    let row = cell_for(xs, records, boxes, slot, k);
+    let column = cell_for(xs, records, boxes, k, slot);
     let i = SLOTS * slot + k;
     relations[i] = row;
     let j = SLOTS * k + slot;
@@ -121,18 +122,39 @@ fn relate_one(xs: &[i32], records: &[u16], relations: &mut [u16], slot: usize, k
 }
 
 // The row and the column of a slot.
-fn relate(xs: &[i32], records: &[u16], relations: &mut [u16], slot: usize)
-    requires { ⌜ Whole (now xs) (now records) × (length (now relations) ≡ relationsLength) × (slot < slots) ⌝ }
+fn relate(xs: &[i32], records: &[u16], boxes: &[u32], relations: &mut [u16], slot: usize)
+    requires { ⌜ Whole (now xs) (now records) × Boxed (now boxes) (now xs) (now records) × (length (now relations) ≡ relationsLength) × (slot < slots) ⌝ }
     ensures { λ _. ⌜ now (relations .exit) ≡ turns (crossed (cellFor (now (xs .entry)) (now (records .entry))) slot) slots (now (relations .entry)) ⌝ }
 {
     let mut k = 0;
     while k < SLOTS {
-        relate_one(xs, records, relations, slot, k);
+        relate_one(xs, records, boxes, relations, slot, k);
         k += 1;
     }
 }
 
-// An outline, or nothing where both lists are empty: its room, its record, its row and its column.
+// An outline, or nothing where both lists are empty: its room, its record, its row and its column. The boxes of what stands are at hand,
+// and are then those of what stands with it.
+pub fn write_among(
+    xs: &mut [i32],
+    records: &mut [u16],
+    relations: &mut [u16],
+    boxes: &mut [u32],
+    slot: usize,
+    outline: &[i32],
+    ends: &[u16],
+)
+    requires { ⌜ Ready (sheetOf (now xs) (now records) (now relations)) slot (parcelOf (regionOf (now outline) (now ends))) × Boxed (now boxes) (now xs) (now records) ⌝ }
+    ensures { λ _. ⌜ sheetOf (now (xs .exit)) (now (records .exit)) (now (relations .exit)) ≡ withParcel (sheetOf (now (xs .entry)) (now (records .entry)) (now (relations .entry))) slot (parcelOf (regionOf (now (outline .entry)) (now (ends .entry)))) ⌝ }
+    ensures { λ _. ⌜ Boxed (now (boxes .exit)) (now (xs .exit)) (now (records .exit)) ⌝ }
+{
+    write_room(xs, slot, outline);
+    write_record(records, slot, ends);
+    find_box(xs, records, boxes, slot);
+    relate(xs, records, boxes, relations, slot);
+}
+
+// The same where no box is at hand: each is found once.
 pub fn write_parcel(
     xs: &mut [i32],
     records: &mut [u16],
@@ -144,7 +166,7 @@ pub fn write_parcel(
     requires { ⌜ Ready (sheetOf (now xs) (now records) (now relations)) slot (parcelOf (regionOf (now outline) (now ends))) ⌝ }
     ensures { λ _. ⌜ sheetOf (now (xs .exit)) (now (records .exit)) (now (relations .exit)) ≡ withParcel (sheetOf (now (xs .entry)) (now (records .entry)) (now (relations .entry))) slot (parcelOf (regionOf (now (outline .entry)) (now (ends .entry)))) ⌝ }
 {
-    write_room(xs, slot, outline);
-    write_record(records, slot, ends);
-    relate(xs, records, relations, slot);
+    let mut boxes = [0u32; BOXES];
+    find_boxes(xs, records, &mut boxes);
+    write_among(xs, records, relations, &mut boxes, slot, outline, ends);
 }

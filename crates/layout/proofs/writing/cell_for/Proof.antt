@@ -1,72 +1,101 @@
-use mathlib.Core.Path.{_≡_, sym, ap₂, _∙_, subst}
+use mathlib.Core.Path.{_≡_, sym, ap, ap₂, _∙_, subst}
 use mathlib.Core.Bool.{false}
+use Rattle.plane.specs.Placed.{BoxInPlaces, Upright}
+use Rattle.plane.specs.declared.Box.{Box}
+use Rattle.ring.specs.declared.Seen.{Seen}
 use Rattle.outline.specs.Region.{Region, regionOf}
 use Rattle.outline.specs.Rules.{Keeps}
 use Rattle.relation.specs.Relation.{regionBox, relationOf}
+use Rattle.relation.proofs.Regions.{region-box-in-places, region-upright}
 use Rattle.layout.specs.Slots.{emptyIn, regionIn}
+use Rattle.layout.proofs.Slots.{parcel-there}
 use Rattle.layout.proofs.SlotCells.{there-keeps, first-empty, second-empty, self, between}
 use Rattle.layout.proofs.writing.cell_for.Statement.{statement}
 use Rattle.layout.proofs.writing.cell_for.Tie as tie
 
 is-empty-requires : tie.Need-is-empty-requires
-is-empty-requires c κs = let p = c .before .pre in (p .0 .outlined _ (p .1) .counted .record-list, p .1)
+is-empty-requires c κs = let p = c .before .before .pre in (p .0 .outlined _ (p .2) .counted .record-list, p .2)
 
 returns : tie.Need-returns
 returns c = first-empty _ _ _ _ (sym (c .before .is-empty .ensures) ∙ c .if1 .taken)
 
 is-empty-requires-2 : tie.Need-is-empty-requires-2
-is-empty-requires-2 c κs = let p = c .before .before .before .pre in (p .0 .outlined _ (p .2) .counted .record-list, p .2)
+is-empty-requires-2 c κs = let p = c .before .before .before .before .pre in (p .0 .outlined _ (p .3) .counted .record-list, p .3)
 
 returns-2 : tie.Need-returns-2
 returns-2 c = second-empty _ _ _ _ (sym (c .before .is-empty2 .ensures) ∙ c .if2 .taken)
 
 -- neither slot is empty
 module _ (c : tie.Else2) where
-  first-there : let a = c .before .before .before .before .before .args in emptyIn (a .records .now) (a .primary) ≡ false
+  abbrev begin : tie.Start
+  begin = c .before .before .before .before .before .before
+
+  abbrev first : Region
+  first = regionIn (begin .args .xs .now) (begin .args .records .now) (begin .args .primary)
+
+  abbrev second : Region
+  second = regionIn (begin .args .xs .now) (begin .args .records .now) (begin .args .reference)
+
+  first-there : emptyIn (begin .args .records .now) (begin .args .primary) ≡ false
   first-there = sym (c .before .before .before .is-empty .ensures) ∙ c .before .before .if1 .left
 
-  second-there : let a = c .before .before .before .before .before .args in emptyIn (a .records .now) (a .reference) ≡ false
+  second-there : emptyIn (begin .args .records .now) (begin .args .reference) ≡ false
   second-there = sym (c .before .is-empty2 .ensures) ∙ c .if2 .left
+
+  first-keeps : Keeps 4 first
+  first-keeps = there-keeps _ _ (begin .pre .0) _ (begin .pre .2) first-there
+
+  second-keeps : Keeps 4 second
+  second-keeps = there-keeps _ _ (begin .pre .0) _ (begin .pre .3) second-there
 
 returns-3 : tie.Need-returns-3
 returns-3 c = self _ _ _ _ (first-there (c .before)) (second-there (c .before)) (c .if3 .taken)
 
+box-at-requires : tie.Need-box-at-requires
+box-at-requires c κs = let p = c .before .before .before .before .before .before .before .pre in (p .1 .listed, p .2)
+
+box-at-requires-2 : tie.Need-box-at-requires-2
+box-at-requires-2 c κs = let p = c .before .before .before .before .before .before .before .before .pre in (p .1 .listed, p .3)
+
 outline-at-requires : tie.Need-outline-at-requires
-outline-at-requires c κs = let p = c .before .before .before .before .before .before .pre in p .0 .outlined _ (p .1)
+outline-at-requires c κs = let p = c .before .before .before .before .before .before .before .before .before .pre in p .0 .outlined _ (p .2)
 
 ends-at-requires : tie.Need-ends-at-requires
-ends-at-requires c κs = let p = c .before .before .before .before .before .before .before .pre in p .0 .outlined _ (p .1) .counted
+ends-at-requires c κs = let p = c .before .before .before .before .before .before .before .before .before .before .pre in p .0 .outlined _ (p .2) .counted
 
-outline-at-requires-2 : tie.Need-outline-at-requires-2
-outline-at-requires-2 c κs = let p = c .before .before .before .before .before .before .before .before .pre in p .0 .outlined _ (p .2)
+-- the boxes and the region that were read
+module _ (c : tie.After-ends-at) where
+  abbrev both : tie.Else2
+  both = c .before .before .before .before .before
 
-ends-at-requires-2 : tie.Need-ends-at-requires-2
-ends-at-requires-2 c κs = let p = c .before .before .before .before .before .before .before .before .before .pre in p .0 .outlined _ (p .2) .counted
+  own-is : c .before .before .before .box-at .result ≡ regionBox (first both)
+  own-is =
+      let s = begin both in
+      c .before .before .before .box-at .ensures ∙ s .pre .1 .each _ (s .pre .2) _ (parcel-there (s .args .xs .now) (s .args .records .now) (s .args .primary) (first-there both))
 
--- the two regions that were read
-module _ (c : tie.After-ends-at2) where
-  first-read : let a = c .before .before .before .before .before .before .before .before .before .before .args in
-      regionOf (c .before .before .before .outline-at .result .now) (c .before .before .ends-at .result .now) ≡ regionIn (a .xs .now) (a .records .now) (a .primary)
-  first-read = ap₂ regionOf (c .before .before .before .outline-at .ensures) (c .before .before .ends-at .ensures)
+  box-is : c .before .before .box-at2 .result ≡ regionBox (second both)
+  box-is =
+      let s = begin both in
+      c .before .before .box-at2 .ensures ∙ s .pre .1 .each _ (s .pre .3) _ (parcel-there (s .args .xs .now) (s .args .records .now) (s .args .reference) (second-there both))
 
-  second-read : let a = c .before .before .before .before .before .before .before .before .before .before .args in
-      regionOf (c .before .outline-at2 .result .now) (c .ends-at2 .result .now) ≡ regionIn (a .xs .now) (a .records .now) (a .reference)
-  second-read = ap₂ regionOf (c .before .outline-at2 .ensures) (c .ends-at2 .ensures)
+  read : regionOf (c .before .outline-at .result .now) (c .ends-at .result .now) ≡ first both
+  read = ap₂ regionOf (c .before .outline-at .ensures) (c .ends-at .ensures)
 
-relation-of-requires : tie.Need-relation-of-requires
-relation-of-requires c κs =
-    let e = c .before .before .before .before .before in
-    let p = e .before .before .before .before .before .pre in (
-      subst (Keeps 4) (sym (first-read c)) (there-keeps _ _ (p .0) _ (p .1) (first-there e)),
-      subst (Keeps 4) (sym (second-read c)) (there-keeps _ _ (p .0) _ (p .2) (second-there e)),
+region-seen-requires : tie.Need-region-seen-requires
+region-seen-requires c κs =
+    let e = both c in (
+      subst BoxInPlaces (sym (box-is c)) (region-box-in-places (second-keeps e)),
+      subst Upright (sym (box-is c)) (region-upright (second e)),
+      subst (Keeps 4) (sym (read c)) (first-keeps e),
+      own-is c ∙ ap regionBox (sym (read c)),
     )
 
 returns-4 : tie.Need-returns-4
 returns-4 c =
-    let b = c .before in
-    let d = b .before .before .before .before in
-    c .relation-of .ensures ∙ ap₂ (λ (Q R : Region). relationOf (regionBox Q) R) (second-read b) (first-read b)
-    ∙ between _ _ _ _ (first-there (d .before)) (second-there (d .before)) (d .if3 .left)
+    let r = c .before in
+    let e = both r in
+    ap (λ (s : Seen). s .set) (c .region-seen .ensures) ∙ ap₂ (λ (k : Box) (R : Region). relationOf k R) (box-is r) (read r)
+    ∙ between _ _ _ _ (first-there e) (second-there e) (c .before .before .before .before .before .if3 .left)
 
 pub cell-for-spec : {M : Type 1} → statement M
 cell-for-spec =
@@ -77,9 +106,9 @@ cell-for-spec =
     is-empty-requires-2
     returns-2
     returns-3
+    box-at-requires
+    box-at-requires-2
     outline-at-requires
     ends-at-requires
-    outline-at-requires-2
-    ends-at-requires-2
-    relation-of-requires
+    region-seen-requires
     returns-4)

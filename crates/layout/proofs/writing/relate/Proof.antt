@@ -12,11 +12,11 @@ use Rattle.layout.proofs.writing.relate.Statement.{statement}
 use Rattle.layout.proofs.writing.relate.Tie as tie
 
 abbrev Inv-loop : tie.InvT-loop
-Inv-loop xs records relations₀ slot k₀ relations k =
+Inv-loop xs records boxes relations₀ slot k₀ relations k =
     (k ≤ slots) × (length relations ≡ relationsLength) × (relations ≡ turns (crossed (cellFor xs records) slot) k relations₀)
 
 abbrev μ-loop : tie.MeasureT-loop
-μ-loop xs records relations₀ slot k₀ relations k = slots - k
+μ-loop xs records boxes relations₀ slot k₀ relations k = slots - k
 
 loop-holds : tie.Need-loop-holds Inv-loop μ-loop
 loop-holds c = (omega arith, omega arith, turns-none _ _)
@@ -34,9 +34,9 @@ loop-again : tie.Need-loop-again Inv-loop μ-loop
 loop-again c =
     let q = c .before .before in
     let p = q .before .before .before .loop in
-    let a = q .before .before .before .before .before .before .args in (
+    let a = q .before .before .before .before .before .before .before .args in (
       omega arith,
-      q .relate-one .kept .1 .1 .0 ∙ p .inv .1,
+      q .relate-one .kept .1 .1 .1 .0 ∙ p .inv .1,
       q .relate-one .ensures ∙ ap (λ (l : List ℕ). crossed (cellFor (a .xs .now) (a .records .now)) (a .slot) (p .k) l) (p .inv .2)
           ∙ turns-more (crossed (cellFor (a .xs .now) (a .records .now)) (a .slot)) (p .k) (a .relations .now),
     )
@@ -47,7 +47,7 @@ same-length c = search needs
 returns : tie.Need-returns Inv-loop μ-loop
 returns c =
     let p = c .before .loop in
-    let a = c .before .before .before .before .args in
+    let a = c .before .before .before .before .before .args in
     let e : p .k ≡ slots = omega arith in
     p .inv .2 ∙ ap (λ (n : ℕ). turns (crossed (cellFor (a .xs .now) (a .records .now)) (a .slot)) n (a .relations .now)) e
 

@@ -42,7 +42,7 @@ same-length c = search needs
 
 returns : tie.Need-returns
 returns c =
-    let a = c .before .before .before .before .args in
+    let a = c .before .before .before .before .before .args in
     ap₂ (λ (x y : ℕ). set (set (a .relations .now) (slots * a .slot + a .k) x) (slots * a .k + a .slot) y) (c .before .cell-for .ensures) (c .cell-for2 .ensures)
 
 pub relate-one-spec : {M : Type 1} → statement M

@@ -1,23 +1,23 @@
-use Rattle.outline.specs.Region.{regionOf}
-use Rattle.layout.proofs.Steps.{ends-few, whole-written, written}
+use native.Mathlib.Omega.{arith}
+use Rattle.layout.specs.Sheet.{sheetOf}
+use Rattle.layout.proofs.Undamaged.{undamaged-whole}
 use borrow.Author.Needs.{needs}
 use Rattle.layout.proofs.writing.write_parcel.Statement.{statement}
 use Rattle.layout.proofs.writing.write_parcel.Tie as tie
 
-write-room-requires : tie.Need-write-room-requires
-write-room-requires c κs = let r = c .before .before .before .before .pre .change in (r .lists .coordinate-list, r .slot-in)
+slice-aggregate-find-boxes : tie.Need-slice-aggregate-find-boxes
+slice-aggregate-find-boxes c = search needs
 
-write-record-requires : tie.Need-write-record-requires
-write-record-requires c κs =
-    let s = c .before .before .before .before .before .before .before in
-    (s .pre .change .lists .record-list, s .pre .change .slot-in, ends-few _ _ (regionOf (s .args .outline .now) (s .args .ends .now)) (s .pre))
+find-boxes-requires : tie.Need-find-boxes-requires
+find-boxes-requires c κs =
+    let s = c .before .before .before .before .before .before in
+    (undamaged-whole (sheetOf (s .args .xs .now) (s .args .records .now) (s .args .relations .now)) (s .pre .change .lists) (s .pre .change .undamaged), omega arith)
 
-relate-requires : tie.Need-relate-requires
-relate-requires c κs =
-    let r = c .before .before .before .before .before in
-    let x = r .before .before .before in
-    let s = x .before .before .before .before .before in
-    (whole-written _ _ (regionOf (s .args .outline .now) (s .args .ends .now)) (s .pre) (x .write-room .ensures) (r .write-record .ensures), s .pre .change .lists .relation-list, s .pre .change .slot-in)
+slice-aggregate-write-among : tie.Need-slice-aggregate-write-among
+slice-aggregate-write-among c = search needs
+
+write-among-requires : tie.Need-write-among-requires
+write-among-requires c κs = (c .before .before .before .before .before .before .before .before .before .before .before .before .pre, c .before .before .before .before .before .find-boxes .ensures)
 
 same-length : tie.Need-same-length
 same-length c = search needs
@@ -29,20 +29,16 @@ same-length-3 : tie.Need-same-length-3
 same-length-3 c = search needs
 
 returns : tie.Need-returns
-returns c =
-    let l = c .before .before in
-    let r = l .before .before .before .before .before .before in
-    let x = r .before .before .before in
-    let s = x .before .before .before .before .before in
-    written _ _ (regionOf (s .args .outline .now) (s .args .ends .now)) (s .pre) (x .write-room .ensures) (r .write-record .ensures) (l .relate .ensures)
+returns c = c .before .before .before .before .before .before .write-among .ensures .0
 
 pub write-parcel-spec : {M : Type 1} → statement M
 write-parcel-spec =
     tie.close
     (tie.spec
-    write-room-requires
-    write-record-requires
-    relate-requires
+    slice-aggregate-find-boxes
+    find-boxes-requires
+    slice-aggregate-write-among
+    write-among-requires
     same-length
     same-length-2
     same-length-3

@@ -1,0 +1,72 @@
+// The boxes of what stands, kept beside the sheet while parcels are written, so that each is found once and not for every cell.
+//   BOXES         the length of the list: four numbers a slot, in places: west, south, east, north
+//   box_at        the box of a slot, read from the list
+//   find_box      the box of what stands in a slot, written into the list
+//   find_boxes    the same for every slot
+ghost use mathlib.Core.Path.{_≡_};
+ghost use Prim.Native.Nat.{_<_};
+ghost use lib.ListN.{length};
+ghost use Rattle.plane.specs.Placed.{BoxInPlaces};
+ghost use Rattle.layout.specs.Sheet.{slots};
+ghost use Rattle.layout.specs.Steps.{Whole};
+ghost use Rattle.layout.specs.BoxList.{boxesLength, boxAt, withBox, boxFound, Boxed};
+use crate::lists::SLOTS;
+use crate::storage::ends_at;
+use crate::storage::is_empty;
+use crate::storage::outline_at;
+use plane::Box;
+use relation::region_box;
+
+pub const BOXES: usize = 128;
+
+pub fn box_at(boxes: &[u32], slot: usize) -> Box
+    requires { ⌜ (length (now boxes) ≡ boxesLength) × (slot < slots) ⌝ }
+    ensures { λ b. ⌜ b ≡ boxAt (now (boxes .entry)) slot ⌝ }
+{
+    let at = 4 * slot;
+    let west = boxes[at] as u64;
+    let south = boxes[at + 1] as u64;
+    let east = boxes[at + 2] as u64;
+    let north = boxes[at + 3] as u64;
+    Box {
+        west,
+        south,
+        east,
+        north,
+    }
+}
+
+fn write_box(boxes: &mut [u32], slot: usize, b: Box)
+    requires { ⌜ (length (now boxes) ≡ boxesLength) × (slot < slots) × BoxInPlaces b ⌝ }
+    ensures { λ _. ⌜ now (boxes .exit) ≡ withBox (now (boxes .entry)) slot b ⌝ }
+{
+    let at = 4 * slot;
+    boxes[at] = b.west as u32;
+    boxes[at + 1] = b.south as u32;
+    boxes[at + 2] = b.east as u32;
+    boxes[at + 3] = b.north as u32;
+}
+
+// An empty slot keeps the numbers that it has: nobody reads them.
+pub fn find_box(xs: &[i32], records: &[u16], boxes: &mut [u32], slot: usize)
+    requires { ⌜ Whole (now xs) (now records) × (length (now boxes) ≡ boxesLength) × (slot < slots) ⌝ }
+    ensures { λ _. ⌜ now (boxes .exit) ≡ boxFound (now (xs .entry)) (now (records .entry)) slot (now (boxes .entry)) ⌝ }
+{
+    if is_empty(records, slot) {
+        return;
+    }
+    let outline = outline_at(xs, records, slot);
+    let ends = ends_at(records, slot);
+    write_box(boxes, slot, region_box(outline, ends));
+}
+
+pub fn find_boxes(xs: &[i32], records: &[u16], boxes: &mut [u32])
+    requires { ⌜ Whole (now xs) (now records) × (length (now boxes) ≡ boxesLength) ⌝ }
+    ensures { λ _. ⌜ Boxed (now (boxes .exit)) (now (xs .entry)) (now (records .entry)) ⌝ }
+{
+    let mut k = 0;
+    while k < SLOTS {
+        find_box(xs, records, boxes, k);
+        k += 1;
+    }
+}
