@@ -1,37 +1,55 @@
--- Words joined one after the other, upwards and downwards: one turn of each loop.
---   Joined t P word        the word has all that word t(c) has, for each c with P c
---   joined-none, joined-more    before the first turn, and with one word more
---   stored-more            the word of this turn is stored, and the words stored before it stay
-use mathlib.Core.Path.{_≡_, subst}
-use mathlib.Core.Logic.{_≢_}
+-- Words joined one after the other, upwards and downwards.
+--   joined-none, joined-more    before the first turn, and one word more
+--   back-more                   a list that is filled from its end: one turn more
+--   below-has, above-has        word b has all that word c had, for each c up to b, and for each c from b on
+use mathlib.Core.Path.{_≡_, refl, _∙_}
 use mathlib.Core.List.{List}
-use Prim.Native.Nat.{ℕ, _<_}
+use Prim.Native.Nat.{ℕ, zero, suc, _-_, _≤_, _<_}
+use native.Mathlib.Omega.{arith}
 use native.Mathlib.Decide.{ℕ-discrete}
 use lib.ListN.{length, getD, set}
 use lib.Seq.{getD-set-same, getD-set-other}
 use lib.Bits.{bitOr}
 use Rattle.plane.specs.TileSet.{bit}
+use Rattle.plane.proofs.Lists.{getD-tab}
+use Rattle.bands.specs.Bands.{bands, joinedTo, belowOf, aboveOf}
 use Rattle.bands.proofs.Bits.{or-left, or-right}
 
-module _ (t : List ℕ) where
-  abbrev pub Joined : (ℕ → Type 0) → ℕ → Type 0
-  Joined P word = (c e : ℕ) → P c → bit (getD t c 0) e ≡ 1 → bit word e ≡ 1
+module _ (f : ℕ → ℕ) where
+  pub joined-none : 0 ≡ joinedTo f 0
+  unfolding joinedTo
+  joined-none = refl
 
-  pub joined-more : (P Q : ℕ → Type 0) (b word : ℕ) → ((c : ℕ) → Q c → c ≢ b → P c) → Joined P word → Joined Q (bitOr word (getD t b 0))
-  joined-more P Q b word f j c e q h =
-      elim (ℕ-discrete c b) [
-        | yes p ↦ or-right word (getD t b 0) e (rw p at h)
-        | no p ↦ or-left word (getD t b 0) e (j c e (f c q p) h)
+  pub joined-more : (n : ℕ) → bitOr (joinedTo f n) (f n) ≡ joinedTo f (suc n)
+  unfolding joinedTo
+  joined-more n = refl
+
+  joined-has : (n c e : ℕ) → c < n → bit (f c) e ≡ 1 → bit (joinedTo f n) e ≡ 1
+  unfolding joinedTo
+  joined-has zero c e l h = absurd (omega arith)
+  joined-has (suc n) c e l h =
+      elim (ℕ-discrete c n) [
+        | yes q ↦ or-right (joinedTo f n) (f n) e (rw q at h)
+        | no q ↦ or-left (joinedTo f n) (f n) e (joined-has n c e (omega arith) h)
       ]
 
-  -- to which words a stored word answers: P b c says that word b has what word c had
-  abbrev pub Stored : (ℕ → ℕ → Type 0) → (ℕ → Type 0) → List ℕ → Type 0
-  Stored P D to = (b c e : ℕ) → D b → P b c → bit (getD t c 0) e ≡ 1 → bit (getD to b 0) e ≡ 1
-
-  pub stored-more : (P : ℕ → ℕ → Type 0) (D E : ℕ → Type 0) (to : List ℕ) (a word : ℕ) → a < length to → ((b : ℕ) → E b → b ≢ a → D b)
-      → Stored P D to → Joined (P a) word → Stored P E (set to a word)
-  stored-more P D E to a word l f s j b c e x p h =
-      elim (ℕ-discrete b a) [
-        | yes q ↦ rw (q, getD-set-same to a word 0 l) (j c e (subst (λ (z : ℕ). P z c) q p) h)
-        | no q ↦ rw (getD-set-other to a b word 0 q) (s b c e (f b x q) p h)
+  pub back-more : (l : List ℕ) (n b v : ℕ) → length l ≡ n → 0 < b → b ≤ n → ((k : ℕ) → b ≤ k → k < n → getD l k 0 ≡ f k) → v ≡ f (b - 1)
+      → (k : ℕ) → b - 1 ≤ k → k < n → getD (set l (b - 1) v) k 0 ≡ f k
+  back-more l n b v len some most old e k lo hi =
+      elim (ℕ-discrete k (b - 1)) [
+        | yes q ↦ rw q (getD-set-same l (b - 1) v 0 (omega arith) ∙ e)
+        | no q ↦ getD-set-other l (b - 1) k v 0 q ∙ old k (omega arith) hi
       ]
+
+pub below-has : (t : List ℕ) (b c e : ℕ) → c ≤ b → b < bands → bit (getD t c 0) e ≡ 1 → bit (getD (belowOf t) b 0) e ≡ 1
+unfolding belowOf
+below-has t b c e l h p =
+    let f : ℕ → ℕ = λ c. getD t c 0 in
+    rw (getD-tab (λ b. joinedTo f (suc b)) 0 bands b h) (joined-has f (suc b) c e (omega arith) p)
+
+pub above-has : (t : List ℕ) (b c e : ℕ) → b ≤ c → c < bands → bit (getD t c 0) e ≡ 1 → bit (getD (aboveOf t) b 0) e ≡ 1
+unfolding aboveOf
+above-has t b c e l h p =
+    let f : ℕ → ℕ = λ k. getD t (bands - suc k) 0 in
+    let q : bands - suc (bands - suc c) ≡ c = omega arith in
+    rw (getD-tab (λ b. joinedTo f (bands - b)) 0 bands b (omega arith)) (joined-has f (bands - b) (bands - suc c) e (omega arith) (rw q p))

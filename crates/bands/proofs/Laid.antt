@@ -1,6 +1,6 @@
 -- What the bands of a ring tell.
---   fitting       a ring that lies between two lines lies in the bands that hold the width between them
---   laid          marked and gathered, the words of the bands have every edge by its ends
+--   fits          a ring that lies between two lines lies in the bands that hold the width between them
+--   laid          marked and joined, the words of the bands have every edge by its ends
 --   near-finds    the word made for edge i has every edge that overlaps it: a band is no earlier than another whose places are lower
 use mathlib.Core.Path.{_≡_}
 use mathlib.Core.Bool.{true}
@@ -11,7 +11,7 @@ use native.Mathlib.Decide.{decLe}
 use borrow.Author.Tests.{leb-true}
 use lib.Dec.{leb}
 use lib.Pow.{shr-mono}
-use lib.ListN.{getD}
+use lib.ListN.{length, getD}
 use lib.Bits.{bitOr}
 use lib.IntN.{ℤ}
 use Rattle.plane.specs.TileSet.{bit}
@@ -19,26 +19,40 @@ use Rattle.plane.proofs.Logic.{and-means}
 use Rattle.meet.specs.MeetTest.{overlap}
 use Rattle.ring.specs.Edges.{corner, after}
 use Rattle.bands.specs.Axis.{placeIn}
-use Rattle.bands.specs.Bands.{bands, bandOf, Within, Fitting, Banded, Marked, GatheredBelow, GatheredAbove, Laid, nearOf, Finds}
+use Rattle.bands.specs.Bands.{bands, mostEdges, bandOf, shiftFor, bandsOf, marksOf, belowOf, aboveOf, Within, Fitting, Banded, Laid, nearOf, Finds}
 use Rattle.bands.proofs.Bits.{or-left, or-right, and-both}
+use Rattle.bands.proofs.Shift.{shift-holds}
+use Rattle.bands.proofs.Banded.{banded}
+use Rattle.bands.proofs.Marks.{marked}
+use Rattle.bands.proofs.Gather.{below-has, above-has}
 
 band-mono : (low shift a b : ℕ) → a ≤ b → bandOf low shift a ≤ bandOf low shift b
 band-mono low shift a b h = shr-mono {a = a - low} {b = b - low} shift (omega arith)
 
-pub fitting : {xs : List ℤ} {from n axis low high : ℕ} (shift : ℕ) → Within xs from n axis low high → (high - low) / 2 ^ shift < bands → Fitting xs from n axis low shift
+fitting : {xs : List ℤ} {from n axis low high : ℕ} (shift : ℕ) → Within xs from n axis low high → (high - low) / 2 ^ shift < bands → Fitting xs from n axis low shift
 fitting {xs} {from} {axis = axis} {low} {high} shift w h =
     record { least = w .least; few = λ k l. omega (arith, h, band-mono low shift (placeIn axis (corner xs from k)) high (w .most k l)) }
 
-pub laid : {xs : List ℤ} {from n axis low shift : ℕ} {s t below above : List ℕ} → Banded xs from n axis low shift s → Marked s n t
-    → GatheredBelow t below → GatheredAbove t above → Laid xs from n axis s below above
-laid {low = low} {shift = shift} {s = s} b m l u =
-    record {
-      low = low;
-      shift = shift;
-      banded = b;
-      lower = record { has = λ e v k h p q r few. l .has k (getD s v 0) e r few (m .has e v h p q) };
-      upper = record { has = λ e v k h p q r. u .has k (getD s v 0) e r (b .few v (omega arith)) (m .has e v h p q) };
-    }
+module _ {xs : List ℤ} {from n axis low high : ℕ} (some : 0 < n) (most : n ≤ mostEdges) (within : Within xs from n axis low high) (top : high ≤ 2000000) where
+  pub fits : Fitting xs from n axis low (shiftFor (high - low))
+  fits = fitting (shiftFor (high - low)) within (shift-holds (high - low) (omega arith) .0)
+
+  pub laid : (s t : List ℕ) {s' below above : List ℕ} → n < length s → length t ≡ bands → s' ≡ bandsOf xs from n axis low (shiftFor (high - low)) s
+      → below ≡ belowOf (marksOf s' n t) → above ≡ aboveOf (marksOf s' n t) → Laid xs from n axis s' below above
+  laid s t {s'} {below} {above} room words es eb ea =
+      record { low = low; shift = shiftFor (high - low); banded = bands-here; lower = record { has = lower }; upper = record { has = upper } }
+    where
+      bands-here : Banded xs from n axis low (shiftFor (high - low)) s'
+      bands-here = rw es (banded xs from n axis low (shiftFor (high - low)) s some room fits)
+
+      marks : (e v : ℕ) → e < n → e ≤ v → v ≤ e + 1 → bit (getD (marksOf s' n t) (getD s' v 0) 0) e ≡ 1
+      marks = marked s' n most (bands-here .few) t words
+
+      lower : (e v b : ℕ) → e < n → e ≤ v → v ≤ e + 1 → getD s' v 0 ≤ b → b < bands → bit (getD below b 0) e ≡ 1
+      lower e v b h p q r few = rw eb (below-has (marksOf s' n t) b (getD s' v 0) e r few (marks e v h p q))
+
+      upper : (e v b : ℕ) → e < n → e ≤ v → v ≤ e + 1 → b ≤ getD s' v 0 → bit (getD above b 0) e ≡ 1
+      upper e v b h p q r = rw ea (above-has (marksOf s' n t) b (getD s' v 0) e r (bands-here .few v (omega arith)) (marks e v h p q))
 
 -- of two ends and two ends, one of the first lies no further than one of the others
 some-pair : {Z : Type 0} (x y u v : ℕ) → min x y ≤ max u v → (x ≤ u → Z) → (x ≤ v → Z) → (y ≤ u → Z) → (y ≤ v → Z) → Z

@@ -1,5 +1,6 @@
 pub mod Bits
 mod Axis
+mod Shift
 mod Gather
 mod Banded
 mod Marks

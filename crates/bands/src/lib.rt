@@ -2,12 +2,12 @@
 // edges have an end in it or before it, and another which have one in it or past it. Two edges that overlap find each other in the
 // words of their own bands. A word may name an edge too many, which costs time; it never leaves one out.
 ghost use mathlib.Core.Path.{_≡_};
-ghost use Prim.Native.Nat.{ℕ, _+_, _/_, _^_, _≤_, _<_};
+ghost use Prim.Native.Nat.{ℕ, _+_, _-_, _≤_, _<_};
 ghost use lib.ListN.{length, getD};
 ghost use Rattle.plane.specs.Points.{vertex};
 ghost use Rattle.ring.specs.Stretch.{Readable, Stretch};
 ghost use Rattle.bands.specs.Axis.{placeIn};
-ghost use Rattle.bands.specs.Bands.{bands, mostEdges, bandOf, Within, Fitting, Banded, Marked, GatheredBelow, GatheredAbove, Laid, nearOf};
+ghost use Rattle.bands.specs.Bands.{bands, mostEdges, bandOf, shiftFor, bandsOf, marksOf, belowOf, aboveOf, Within, Fitting, nearOf};
 use plane::place_at;
 
 pub const BANDS: usize = 32;
@@ -25,7 +25,7 @@ pub fn place_in(outline: &[i32], i: usize, axis: usize) -> u32
 
 // How wide bands must be, as a power of two, for 32 of them to hold the width.
 fn shift_for(width: u32) -> u32
-    ensures { λ r. ⌜ (width / 2 ^ r < bands) × (r < 32) ⌝ }
+    ensures { λ r. ⌜ r ≡ shiftFor width ⌝ }
 {
     let zeros = u32::leading_zeros(width);
     if zeros < 27 {
@@ -53,7 +53,7 @@ fn band_ends(
     to: &mut [u8],
 )
     requires { ⌜ Stretch (now outline) from n × (0 < n) × (n < length (now to)) × (axis ≤ 1) × (shift < 32) × Fitting (now outline) from n axis low shift ⌝ }
-    ensures { λ r. ⌜ Banded (now (outline .entry)) from n axis low shift (now (to .exit)) ⌝ }
+    ensures { λ r. ⌜ now (to .exit) ≡ bandsOf (now (outline .entry)) from n axis low shift (now (to .entry)) ⌝ }
 {
     let mut i: usize = 0;
     while i < n {
@@ -66,7 +66,7 @@ fn band_ends(
 // Vertex i is an end of the edges i - 1 and i.
 fn mark(s: &[u8], n: usize, to: &mut [u64])
     requires { ⌜ (n ≤ mostEdges) × (n < length (now s)) × (length (now to) ≡ bands) × ((v : ℕ) → v ≤ n → getD (now s) v 0 < bands) ⌝ }
-    ensures { λ r. ⌜ Marked (now (s .entry)) n (now (to .exit)) ⌝ }
+    ensures { λ r. ⌜ now (to .exit) ≡ marksOf (now (s .entry)) n (now (to .entry)) ⌝ }
 {
     let first = s[0] as usize;
     to[first] = 1;
@@ -81,7 +81,7 @@ fn mark(s: &[u8], n: usize, to: &mut [u64])
 // Each word joined with those before it.
 fn gather_below(t: &mut [u64])
     requires { ⌜ length (now t) ≡ bands ⌝ }
-    ensures { λ r. ⌜ GatheredBelow (now (t .entry)) (now (t .exit)) ⌝ }
+    ensures { λ r. ⌜ now (t .exit) ≡ belowOf (now (t .entry)) ⌝ }
 {
     let mut word: u64 = 0;
     let mut b: usize = 0;
@@ -95,7 +95,7 @@ fn gather_below(t: &mut [u64])
 // Each word joined with those past it.
 fn gather_above(t: &[u64], to: &mut [u64])
     requires { ⌜ (length (now t) ≡ bands) × (length (now to) ≡ bands) ⌝ }
-    ensures { λ r. ⌜ GatheredAbove (now (t .entry)) (now (to .exit)) ⌝ }
+    ensures { λ r. ⌜ now (to .exit) ≡ aboveOf (now (t .entry)) ⌝ }
 {
     let mut word: u64 = 0;
     let mut b: usize = BANDS;
@@ -120,7 +120,9 @@ pub fn lay_bands(
 )
     requires { ⌜ Stretch (now outline) from n × (0 < n) × (n ≤ mostEdges) × (axis ≤ 1) × Within (now outline) from n axis low high × (high ≤ 2000000) ⌝ }
     requires { ⌜ (n < length (now s)) × (length (now below) ≡ bands) × (length (now above) ≡ bands) ⌝ }
-    ensures { λ r. ⌜ Laid (now (outline .entry)) from n axis (now (s .exit)) (now (below .exit)) (now (above .exit)) ⌝ }
+    ensures { λ r. ⌜ now (s .exit) ≡ bandsOf (now (outline .entry)) from n axis low (shiftFor (high - low)) (now (s .entry)) ⌝ }
+    ensures { λ r. ⌜ now (below .exit) ≡ belowOf (marksOf (now (s .exit)) n (now (below .entry))) ⌝ }
+    ensures { λ r. ⌜ now (above .exit) ≡ aboveOf (marksOf (now (s .exit)) n (now (below .entry))) ⌝ }
 {
     let shift = shift_for((high - low) as u32);
     band_ends(outline, from, n, axis, low as u32, shift, s);

@@ -1,27 +1,28 @@
 -- The loop's invariant: the bands from b on are done, and the word has all of them.
-use mathlib.Core.Path.{_≡_, _∙_}
-use Prim.Native.Nat.{ℕ, _-_, _≤_, _<_}
+use mathlib.Core.Path.{_≡_, _∙_, ap, ap₂}
+use mathlib.Core.List.{List}
+use Prim.Native.Nat.{ℕ, suc, _-_, _≤_, _<_}
 use native.Mathlib.Omega.{arith}
 use lib.ListN.{length, getD, length-set}
 use lib.Bits.{bitOr}
-use Rattle.bands.specs.Bands.{bands}
-use Rattle.bands.proofs.Gather.{Joined, joined-more, Stored, stored-more}
+use Rattle.plane.proofs.Lists.{tab-all}
+use Rattle.bands.specs.Bands.{bands, joinedTo, aboveOf}
+use Rattle.bands.proofs.Gather.{joined-none, joined-more, back-more}
 use borrow.Author.Needs.{needs}
 use Rattle.bands.proofs.gather_above.Statement.{statement}
 use Rattle.bands.proofs.gather_above.Tie as tie
 
--- word c is that of band b or of one past it
-abbrev past : ℕ → ℕ → Type 0
-past b c = (b ≤ c) × (c < bands)
+abbrev downward : List ℕ → ℕ → ℕ
+downward t k = getD t (bands - suc k) 0
 
 abbrev Inv-loop : tie.InvT-loop
-Inv-loop t to₀ word₀ b₀ to word b = (b ≤ bands) × (length to ≡ bands) × Joined t (past b) word × Stored t past (λ a. b ≤ a) to
+Inv-loop t to₀ word₀ b₀ to word b = (b ≤ bands) × (length to ≡ bands) × (word ≡ joinedTo (downward t) (bands - b)) × ((a : ℕ) → b ≤ a → a < bands → getD to a 0 ≡ joinedTo (downward t) (bands - a))
 
 abbrev μ-loop : tie.MeasureT-loop
 μ-loop t to₀ word₀ b₀ to word b = b
 
 loop-holds : tie.Need-loop-holds Inv-loop μ-loop
-loop-holds c = (omega arith, c .pre .1, λ k e p h. absurd (omega arith), λ a k e d p h. absurd (omega arith))
+loop-holds c = (omega arith, c .pre .1, joined-none _, λ a p h. absurd (omega arith))
 
 sub-b : tie.Need-sub-b Inv-loop μ-loop
 sub-b c = search needs
@@ -47,18 +48,24 @@ loop-again c =
     let t = c .before .before .before .args .t .now in
     let a = l .b - 1 in
     let word = bitOr (l .word) (getD t a 0) in
-    let joined : Joined t (past a) word = joined-more t (past (l .b)) (past a) a (l .word) (λ k p ne. (omega arith, p .1)) (l .inv .2) in (
+    let p : a ≡ bands - suc (bands - l .b) = omega arith in
+    let q : suc (bands - l .b) ≡ bands - a = omega arith in
+    let joined : word ≡ joinedTo (downward t) (bands - a) =
+    ap₂ bitOr (l .inv .2) (ap (λ (k : ℕ). getD t k 0) p) ∙ joined-more (downward t) (bands - l .b) ∙ ap (joinedTo (downward t)) q in (
       omega arith,
       length-set (l .to) a word ∙ l .inv .1,
       joined,
-      stored-more t past (λ k. l .b ≤ k) (λ k. a ≤ k) (l .to) a word (omega (arith, l .inv .1)) (λ k p ne. omega arith) (l .inv .3) joined,
+      back-more (λ k. joinedTo (downward t) (bands - k)) (l .to) bands (l .b) word (l .inv .1) (omega arith) (l .inv .0) (l .inv .3) joined,
     )
 
 same-length : tie.Need-same-length Inv-loop μ-loop
 same-length c = search needs
 
 returns : tie.Need-returns Inv-loop μ-loop
-returns c = record { has = λ b k e p q h. c .before .loop .inv .3 b k e (omega arith) (p, q) h }
+unfolding aboveOf
+returns c =
+    let l = c .before .loop in
+    tab-all (λ b. joinedTo (downward (c .before .before .args .t .now)) (bands - b)) 0 bands (l .to) (l .inv .1) (λ k h. l .inv .3 k (omega arith) h)
 
 pub gather-above-spec : {M : Type 1} → statement M
 gather-above-spec =

@@ -1,16 +1,18 @@
--- The loop's invariant: the vertices before i have marked their edges.
-use mathlib.Core.Path.{_≡_, _∙_}
-use Prim.Native.Nat.{_+_, _-_, _≤_, _<_}
+-- The loop's invariant: the words after the marks of the vertices before i.
+use mathlib.Core.Path.{_≡_, _∙_, ap}
+use Prim.Native.Nat.{ℕ, _+_, _-_, _≤_, _<_}
 use native.Mathlib.Omega.{arith}
-use lib.ListN.{length, getD, length-set}
-use Rattle.bands.specs.Bands.{bands}
-use Rattle.bands.proofs.Marks.{MarkedTo, marked-first, marked-more}
+use lib.ListN.{length, getD, set, length-set}
+use Rattle.plane.specs.Folds.{turns}
+use Rattle.plane.proofs.Folds.{turns-none}
+use Rattle.bands.specs.Bands.{bands, markAt, marksOf}
+use Rattle.bands.proofs.Marks.{marks-more}
 use borrow.Author.Needs.{needs}
 use Rattle.bands.proofs.mark.Statement.{statement}
 use Rattle.bands.proofs.mark.Tie as tie
 
 abbrev Inv-loop : tie.InvT-loop
-Inv-loop s n to₀ first i₀ to i = (0 < i) × (i ≤ n + 1) × (length to ≡ bands) × MarkedTo s n i to
+Inv-loop s n to₀ first i₀ to i = (0 < i) × (i ≤ n + 1) × (length to ≡ bands) × (to ≡ turns (markAt s) (i - 1) to₀)
 
 abbrev μ-loop : tie.MeasureT-loop
 μ-loop s n to₀ first i₀ to i = n + 1 - i
@@ -38,7 +40,7 @@ loop-holds : tie.Need-loop-holds Inv-loop μ-loop
 loop-holds c =
     let a = c .before .args in
     let p = c .before .pre in
-    (omega arith, omega arith, length-set (a .to .now) (getD (a .s .now) 0 0) 1 ∙ p .2, marked-first (a .s .now) (a .n) (a .to .now) (omega (arith, first-few c, p .2)))
+    (omega arith, omega arith, length-set (a .to .now) (getD (a .s .now) 0 0) 1 ∙ p .2, turns-none _ _)
 
 shared-slice-read-b : tie.Need-shared-slice-read-b Inv-loop μ-loop
 shared-slice-read-b c = search needs
@@ -74,20 +76,23 @@ loop-again : tie.Need-loop-again Inv-loop μ-loop
 loop-again c =
     let l = c .before .before .before .loop in
     let a = c .before .before .before .before .before .args in
-    let p = c .before .before .before .before .before .pre in
     let few-here = few (c .before .before) in (
       omega arith,
       omega (arith, c .before .before .loop-test .taken),
       simp length-set (l .inv .2),
-      marked-more (a .s .now) (a .n) (l .i) (l .to) (l .inv .0) (c .before .before .loop-test .taken) (p .0) (omega (arith, l .inv .2)) (l .inv .3),
+      marks-more (a .s .now) (l .i) (set (a .to .now) (getD (a .s .now) 0 0) 1) (l .to) (l .inv .0) (l .inv .3),
     )
 
 same-length : tie.Need-same-length Inv-loop μ-loop
 same-length c = search needs
 
 returns : tie.Need-returns Inv-loop μ-loop
+unfolding marksOf
 returns c =
-    record { has = λ e v h p q. c .before .loop .inv .3 e v h p q (omega (arith, c .loop-test .left)) }
+    let l = c .before .loop in
+    let a = c .before .before .before .args in
+    let e : l .i - 1 ≡ a .n = omega (arith, l .inv .0, l .inv .1, c .loop-test .left) in
+    l .inv .3 ∙ ap (λ (k : ℕ). turns (markAt (a .s .now)) k (set (a .to .now) (getD (a .s .now) 0 0) 1)) e
 
 pub mark-spec : {M : Type 1} → statement M
 mark-spec =

@@ -1,6 +1,7 @@
 use native.Mathlib.Omega.{arith}
 use Rattle.plane.specs.Placed.{BoxInPlaces}
 use Rattle.ring.proofs.RingBox.{box-in-places}
+use Rattle.bands.proofs.Laid.{laid}
 use Rattle.simple.proofs.Near.{x-within, y-within}
 use borrow.Author.Needs.{needs}
 use Rattle.simple.proofs.large_meets.Statement.{statement}
@@ -79,10 +80,15 @@ banded-meets-requires : tie.Need-banded-meets-requires
 banded-meets-requires c κs =
     let x = first c .lay-bands in
     let y = second c .lay-bands2 in
-    let p = start c .pre in (
+    let p = start c .pre in
+    let f = lay-bands-requires (first c .before) (x .lifetimes) in
+    let g = lay-bands-requires-2 (second c .before) (y .lifetimes) in (
       (p .0, p .2),
       (
-        (x .ensures, y .ensures),
+        (
+          laid (f .0 .1) (f .0 .2) (f .0 .4) (f .0 .5) _ _ (f .1 .0) (f .1 .1) (x .ensures .0) (x .ensures .1 .0) (x .ensures .1 .1),
+          laid (g .0 .1) (g .0 .2) (g .0 .4) (g .0 .5) _ _ (g .1 .0) (g .1 .1) (y .ensures .0) (y .ensures .1 .0) (y .ensures .1 .1),
+        ),
         (
           omega (arith, p .2, x .kept .1 .1 .1 .1 .1 .1 .0),
           x .kept .1 .1 .1 .1 .1 .1 .1 .0,
