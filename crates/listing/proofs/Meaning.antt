@@ -50,8 +50,9 @@ use Rattle.card.proofs.Numbers.{not-good-means}
 use Rattle.io.specs.Digits.{glyph, digits}
 use Rattle.listing.specs.Names.{nameOf, namesOf, B, O}
 use Rattle.listing.specs.Listing.{space, lineFeed, decimal, parcelsWord, refusedWord, pairLine, lineOf, listing}
-use Rattle.listing.proofs.NameWords.{Starts, between, setBits, set-bits-mean, set-bits-rise, names-are, names-start, some-bit}
-use Rattle.listing.proofs.NameFields.{StandsIn, tile-named, direction-named}
+use Rattle.listing.specs.Fields.{Starts, between, setBits, StandsIn}
+use Rattle.listing.proofs.NameWords.{set-bits-mean, set-bits-rise, names-are, names-start, some-bit}
+use Rattle.listing.proofs.NameFields.{tile-named, direction-named}
 use Rattle.listing.proofs.PairLines.{line-some, refused}
 use Rattle.listing.proofs.list.Reads as list-reads
 

@@ -1,6 +1,4 @@
 -- The word of a set, read back: cut at its colons it is the names of its bits again, and a name tells its bit.
---   fieldsOf w         the word w, cut at its colons
---   StandsIn name w    the name is one of these parts
 --   names-cut          the word of a set that has a bit, cut at its colons, is the list of the names of its bits
 --   tile-named         the name of tile t stands in the word of a set of tiles exactly when bit t is set;  direction-named  of directions
 use mathlib.Core.Path.{_≡_, refl, sym, _∙_, ap}
@@ -11,23 +9,12 @@ use native.Mathlib.Omega.{arith}
 use lib.Dec.{eqb}
 use lib.ListN.{length, getD, length-map}
 use borrow.Author.Tests.{ne-eqb}
-use Rattle.plane.specs.Choice.{pick}
 use Rattle.plane.specs.Folds.{firstOf}
 use Rattle.plane.specs.TileSet.{bit}
 use Rattle.plane.specs.Lists.{Among}
 use Rattle.listing.specs.Names.{N, S, W, E, B, O, colon, nameOf, namesOf}
-use Rattle.listing.proofs.NameWords.{between, setBits, set-bits-mean, names-are, name-starts}
-
-abbrev grow : ℕ → List (List ℕ) → List (List ℕ)
-grow x [] = (x ∷ []) ∷ []
-grow x (w ∷ ws) = (x ∷ w) ∷ ws
-
-unfoldable pub fieldsOf : List ℕ → List (List ℕ)
-fieldsOf [] = [] ∷ []
-fieldsOf (x ∷ w) = pick (eqb x colon) ([] ∷ fieldsOf w) (grow x (fieldsOf w))
-
-abbrev pub StandsIn : (name w : List ℕ) → Type 0
-StandsIn name w = (i : ℕ) × (i < length (fieldsOf w)) × (getD (fieldsOf w) i [] ≡ name)
+use Rattle.listing.specs.Fields.{between, setBits, grow, fieldsOf, StandsIn}
+use Rattle.listing.proofs.NameWords.{set-bits-mean, names-are, name-starts}
 
 -- ---- words without a colon
 abbrev Free : List ℕ → Type 0

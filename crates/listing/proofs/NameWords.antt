@@ -1,8 +1,5 @@
 -- A set as a word.
---   Starts w           the word w is not empty
---   between ws         words one behind the other, with a colon between two
---   setBits s k        the bits below k that are set in s, in rising order
---   set-bits-mean      bit t is among them exactly when it is below k and set;  set-bits-rise  they do rise
+--   set-bits-mean      bit t is among the set bits below k exactly when it is below k and set;  set-bits-rise  they do rise
 --   names-are          the word of a set: the names of its set bits in rising order, with a colon between two
 --   name-starts        no name is empty
 --   names-start        the word is not empty where one of the nine bits is set;  some-bit  as it is in a number below 512 that is not 0
@@ -24,9 +21,7 @@ use Rattle.plane.proofs.Logic.{clash, is-false}
 use Rattle.plane.proofs.Folds.{any-means}
 use Rattle.plane.specs.Lists.{Among}
 use Rattle.listing.specs.Names.{N, S, W, E, colon, nameOf, colonAfter, namesTo, namesOf}
-
-abbrev pub Starts : List ℕ → Type 0
-Starts w = (x : ℕ) × (rest : List ℕ) × (w ≡ x ∷ rest)
+use Rattle.listing.specs.Fields.{Starts, between, setBits}
 
 starts-append : (w v : List ℕ) → Starts w → Starts (w ++ v)
 starts-append w v (x, rest, e) = (x, rest ++ v, rw e refl)
@@ -52,11 +47,6 @@ module _ (t : ℕ) (l m : List ℕ) where
   among-right (i, h, e) = (length l + i, omega (arith, length-append l m, h), getD-append-add l m i 0 ∙ e)
 
 -- ---- words with colons
-abbrev pub between : List (List ℕ) → List ℕ
-between [] = []
-between (w ∷ []) = w
-between (w ∷ (v ∷ ws)) = w ++ (colon ∷ between (v ∷ ws))
-
 module _ (f : ℕ → List ℕ) where
   between-starts : (t : ℕ) (l : List ℕ) → Starts (f t) → Starts (between (map f (t ∷ l)))
   between-starts t [] s = s
@@ -76,10 +66,6 @@ module _ (f : ℕ → List ℕ) where
       ∙ ap (λ (c : List ℕ). (f t ++ (colon ∷ word)) ++ (c ++ f k)) (sym (colon-after-some (f t ++ (colon ∷ word)) (starts-append (f t) _ start)))
 
 -- ---- the set bits
-unfoldable pub setBits : (s k : ℕ) → List ℕ
-setBits s zero = []
-setBits s (suc k) = setBits s k ++ pick (eqb (bit s k) 1) (k ∷ []) []
-
 module _ (s : ℕ) where
   bits-there : (k t : ℕ) → Among t (setBits s k) → (t < k) × (bit s t ≡ 1)
   unfolding setBits

@@ -1,3 +1,4 @@
 pub mod Names
 pub mod Listing
+pub mod Fields
 pub mod Steps
