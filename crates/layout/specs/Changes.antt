@@ -2,7 +2,7 @@
 -- written whole, zeros included, and nothing else is. Every such change is refused by 11, 8 and 12, in this order, before it looks at anything
 -- of its own; a call without a slot by 11, then 12.
 --   withParcel s i p        the sheet s with p in slot i
---   TouchesOnly i s t       condition 3's second sentence, place by place: t differs from s at most in the room and the record of slot i, and
+--   TouchesOnly i s t       what SCOPE 1.3 allows a put or a removal, place by place: t differs from s at most in the room and the record of slot i, and
 --                           in its row and its column. That withParcel keeps to it: proofs/Written, `with-touches`
 --   changeNumber s i        the refusal of any change of slot i, or 0
 --   wholeNumber s           the refusal of a call on the whole sheet, or 0. Its meaning: proofs/Refusing, `whole-means`
