@@ -1,11 +1,13 @@
 -- A good card, laid out parcel by parcel.
 --   loaded b n i            what the first n parcels of the card b put into slot i
 --   loaded-none, loaded-all     none of the parcels are laid out, and all
---   put-loaded              one more: a put of parcel k takes the layout of the first k to that of the first k + 1
+--   with-loaded             one more: parcel k takes the layout of the first k to that of the first k + 1
+--   changeable              the layout of the first k may be changed
 --   good-stands             what a good card puts into the slots may stand together
+--   from-blank, blank-boxed    an empty sheet is the layout of no parcel, and any list has its boxes
 --   same-lists              no list changes its length
 --   load-refused, load-wrong, load-done    what loading answers, and the sheet at exit
-use mathlib.Core.Path.{_≡_, refl, sym, _∙_, ap}
+use mathlib.Core.Path.{_≡_, refl, sym, _∙_, ap, subst}
 use mathlib.Core.Logic.{_≢_}
 use mathlib.Core.Bool.{Bool, true, false}
 use mathlib.Core.List.{List}
@@ -20,12 +22,14 @@ use Rattle.plane.proofs.Folds.{first-hit, first-passes}
 use Rattle.outline.specs.Region.{Parcel, nothing, outline}
 use Rattle.layout.specs.Sheet.{Sheet, wrongLists}
 use Rattle.layout.specs.Standing.{instead, ParcelKeeps, StandTogether}
-use Rattle.layout.specs.Layout.{layout}
-use Rattle.layout.proofs.RightLists.{lists-mean}
-use Rattle.layout.proofs.Standing.{stand-fewer, stand-same, layout-lists, layout-same}
-use Rattle.sheet.specs.Changes.{put, clear, clearNumber}
-use Rattle.sheet.proofs.Layouts.{put-layout}
+use Rattle.layout.specs.Layout.{layout, blank}
+use Rattle.layout.specs.Slots.{parcelAt}
+use Rattle.layout.specs.Changes.{withParcel, Changeable}
+use Rattle.layout.specs.BoxList.{boxesLength, Boxed}
+use Rattle.layout.proofs.Standing.{stand-fewer, layout-lists, layout-same, layout-parcel, layout-undamaged, layout-with}
 use Rattle.layout.proofs.Blank.{blank-layout}
+use Rattle.layout.proofs.BoxList.{boxed-empty}
+use Rattle.sheet.specs.Changes.{clear, clearNumber}
 use Rattle.card.specs.Reading.{parcelCount, slotAt, regionAt, entryOf, parcelIn}
 use Rattle.card.specs.CardNumber.{cardNumber}
 use Rattle.card.specs.Good.{GoodCard}
@@ -83,11 +87,25 @@ module _ (b : List ℕ) (good : GoodCard b) where
               | no m ↦ le-ltb (entryOf b i) k (omega arith) ∙ sym (le-ltb (entryOf b i) (k + 1) (omega (arith, other i n)))
             ]
 
-    pub put-loaded : put (layout (loaded b k)) (slotAt b k) (regionAt b k) ≡ layout (loaded b (k + 1))
-    put-loaded =
-        put-layout (loaded b k) (stand-fewer (omega arith) (loaded-stand k (omega arith))) (slotAt b k) (regionAt b k) (omega (arith, good .slots-low k l))
-        (stand-same (loaded b (k + 1)) _ (λ i h. sym (one-more i)) (loaded-stand (k + 1) (omega arith)))
-        ∙ layout-same _ _ (λ i h. one-more i)
+    stand : StandTogether 4 (loaded b k)
+    stand = stand-fewer (omega arith) (loaded-stand k (omega arith))
+
+    pub changeable : {t : Sheet} → t ≡ layout (loaded b k) → Changeable t (slotAt b k)
+    changeable e =
+        subst (λ (t : Sheet). Changeable t (slotAt b k)) (sym e)
+        (record { lists = layout-lists (loaded b k) stand; slot-in = omega (arith, good .slots-low k l); undamaged = layout-undamaged (loaded b k) stand })
+
+    pub with-loaded : withParcel (layout (loaded b k)) (slotAt b k) (outline (regionAt b k)) ≡ layout (loaded b (k + 1))
+    with-loaded = layout-with (loaded b k) stand (slotAt b k) (outline (regionAt b k)) ∙ layout-same _ _ (λ i h. one-more i)
+
+-- ---- an empty sheet
+pub from-blank : (b : List ℕ) {t : Sheet} → t ≡ blank → t ≡ layout (loaded b 0)
+from-blank b e = e ∙ blank-layout ∙ loaded-none b
+
+pub blank-boxed : (boxes : List ℕ) → length boxes ≡ boxesLength → {t : Sheet} → t ≡ blank → Boxed boxes (t .coordinates) (t .records)
+blank-boxed boxes h {t} e =
+    boxed-empty (t .coordinates) (t .records) boxes h
+    (λ i l. ap (λ (s : Sheet). parcelAt s i) (e ∙ blank-layout) ∙ layout-parcel (λ k. nothing) (record { each = λ k m. tt }) i l)
 
 -- ---- the call
 module _ (s : Sheet) (b : List ℕ) where
@@ -96,9 +114,9 @@ module _ (s : Sheet) (b : List ℕ) where
   load-refused w = (rw w refl, rw w refl)
 
   module _ (w : wrongLists s ≡ false) where
-    pub cleared : {t : Sheet} → t ≡ clear s → t ≡ layout (loaded b 0)
+    pub cleared : {t : Sheet} → t ≡ clear s → t ≡ blank
     unfolding clear clearNumber
-    cleared e = e ∙ rw w (blank-layout ∙ loaded-none b)
+    cleared e = e ∙ rw w refl
 
     pub load-wrong : {n : ℕ} → n ≡ cardNumber b → n ≢ 0 → (n ≡ loadNumber s b) × (s ≡ load s b)
     unfolding load loadNumber
@@ -108,13 +126,13 @@ module _ (s : Sheet) (b : List ℕ) where
     unfolding load loadNumber
     load-done g e = (rw w (sym g), rw (w, g) e)
 
-    -- a layout has the lengths of every sheet that keeps rule 11
-    pub same-lists : (st : ℕ → Parcel) → StandTogether 4 st → {t : Sheet} → t ≡ layout st
-        → (length (t .coordinates) ≡ length (s .coordinates)) × (length (t .records) ≡ length (s .records)) × (length (t .relations) ≡ length (s .relations))
-    same-lists st stand e =
-        let a = lists-mean s .0 w in
-        let c = layout-lists st stand in (
-          ap (λ (x : Sheet). length (x .coordinates)) e ∙ c .coordinate-list ∙ sym (a .coordinate-list),
-          ap (λ (x : Sheet). length (x .records)) e ∙ c .record-list ∙ sym (a .record-list),
-          ap (λ (x : Sheet). length (x .relations)) e ∙ c .relation-list ∙ sym (a .relation-list),
-        )
+-- ---- two layouts have the same lengths
+pub same-lists : (st su : ℕ → Parcel) → StandTogether 4 st → StandTogether 4 su → {s t : Sheet} → s ≡ layout st → t ≡ layout su
+    → (length (t .coordinates) ≡ length (s .coordinates)) × (length (t .records) ≡ length (s .records)) × (length (t .relations) ≡ length (s .relations))
+same-lists st su stand stand' d e =
+    let a = layout-lists st stand in
+    let c = layout-lists su stand' in (
+      ap (λ (x : Sheet). length (x .coordinates)) e ∙ c .coordinate-list ∙ sym (ap (λ (x : Sheet). length (x .coordinates)) d ∙ a .coordinate-list),
+      ap (λ (x : Sheet). length (x .records)) e ∙ c .record-list ∙ sym (ap (λ (x : Sheet). length (x .records)) d ∙ a .record-list),
+      ap (λ (x : Sheet). length (x .relations)) e ∙ c .relation-list ∙ sym (ap (λ (x : Sheet). length (x .relations)) d ∙ a .relation-list),
+    )
