@@ -1,5 +1,6 @@
 -- What a call of the C host gets back, from the call's own contract: `card` and `report` are the bytes at entry, `after` those of the report at exit.
---   call-none-means     the number is 0 exactly when the report has room, the card is good and has two parcels
+--   call-means          the number is n exactly when case n of specs/Meaning holds
+--   call-none-means     it is 0 exactly when the report has room, the card is good and has two parcels
 --   call-either         it is 0, 10, 17 or one of the numbers of a card, and no other
 --   call-kept           beside a number that is not 0 the report is as it was found
 --   call-behind         its bytes past 38 are always so
@@ -18,8 +19,8 @@ use Rattle.endian.specs.Bytes.{u16At}
 use Rattle.card.specs.Reading.{regionAt}
 use Rattle.card.specs.Good.{CardsOwn}
 use Rattle.host.specs.Report.{reportLength}
-use Rattle.host.specs.Meaning.{Reported, ReportHas}
-use Rattle.host.proofs.Meaning.{number-none-means, number-either, report-kept, report-behind, report-named, report-has, report-tile}
+use Rattle.host.specs.Meaning.{Reported, HostSays, ReportHas}
+use Rattle.host.proofs.Meaning.{host-says, number-none-means, number-either, report-kept, report-behind, report-named, report-has, report-tile}
 use Rattle.host.proofs.direction_report.Reads as reads
 
 module _ (κs : _) (a : _) (r : ℕ) (s : _) (post : reads.Post κs a r s) where
@@ -31,6 +32,9 @@ module _ (κs : _) (a : _) (r : ℕ) (s : _) (post : reads.Post κs a r s) where
 
   abbrev after : List ℕ
   after = s .1 .0 .now
+
+  pub call-means : (n : ℕ) → (r ≡ n) ↔ HostSays card report n
+  call-means n = rw (post .0) (host-says card report n)
 
   pub call-none-means : (r ≡ 0) ↔ Reported card report
   call-none-means = rw (post .0) (number-none-means card report)

@@ -1,11 +1,8 @@
 -- What the call for the C host answers, exactly when. The first region is that of the card's parcel 0, the second that of parcel 1; their pair answer
 -- is explained field by field in pair/proofs (Laws, Cells, Directions, Compass).
 -- The number:
+--   host-says              it is n exactly when case n of specs/Meaning holds
 --   number-none-means      the number is 0 exactly when the report has room for 38 bytes, the card is good and has two parcels (`Reported`)
---   number-short-means     it is 10 exactly when the report has less room
---   number-own-means       it is one of the numbers of a card (2 to 7, 14, 15, 16) exactly when the report has room and the card has that number
---   number-not-good        which it has wherever the report has room and the card is not good
---   number-count-means     it is 17 exactly when the report has room and the card is good, but has not two parcels
 --   number-either          it is 0, 10, 17 or one of the numbers of a card, and no other: 13 never comes
 -- The report:
 --   report-kept            beside a number that is not 0 it is as it was found
@@ -17,7 +14,7 @@
 --   report-tile            bit t of its number 3 is 1 exactly when the first region has tile t of the second's box;  report-back-tile  bit t of number
 --                          4 exactly when the second has tile t of the first's
 use mathlib.Core.Path.{_≡_, refl, sym, _∙_, ap, subst}
-use mathlib.Core.Logic.{_↔_, _⊎_, _≢_, inl, inr, ⊎-elim}
+use mathlib.Core.Logic.{_↔_, _⊎_, _≢_, inl, inr}
 use mathlib.Core.List.{List, [], _∷_, _++_}
 use Prim.Native.Nat.{ℕ, _+_, _-_, _*_, _/_, _%_, _≤_, _<_}
 use native.Mathlib.Omega.{arith}
@@ -47,15 +44,11 @@ use Rattle.card.specs.CardNumber.{cardNumber}
 use Rattle.card.specs.Good.{GoodCard, CardsOwn}
 use Rattle.card.specs.Pairs.{pairIn}
 use Rattle.card.proofs.Good.{good-means}
-use Rattle.card.proofs.Numbers.{card-number-either, not-good-means}
-use Rattle.host.specs.Meaning.{Reported, ReportHas}
+use Rattle.card.proofs.Numbers.{not-good-means}
+use Rattle.host.specs.Meaning.{Reported, HostSays, host-short, host-card, host-count, host-done, ReportHas}
 use Rattle.host.specs.Report.{reportNumbers, reportLength, reportBytes, hostNumber, hostReport}
 use Rattle.host.proofs.Report.{report-short, report-card, report-parcels, report-done}
 use Rattle.endian.proofs.Words.{word-read, Small, small-none, small-more, small-append}
-
-own-some : (n m : ℕ) → CardsOwn n → n ≡ m → (m ≢ 0) × (m ≢ 10) × (m ≢ 17)
-own-some n m (inl p) e = (λ q. omega (arith, p .0), λ q. omega (arith, p .1), λ q. omega (arith, p .1))
-own-some n m (inr p) e = (λ q. omega (arith, p .0), λ q. omega (arith, p .0), λ q. omega (arith, p .1))
 
 module _ (a : Answer) (nine : length (a .cells) ≡ 9) where
   abbrev last : List ℕ
@@ -86,80 +79,52 @@ module _ (card report : List ℕ) where
   answered r = record { first-kept = r .good .parcels-keep 0 (omega (arith, r .two)); second-kept = r .good .parcels-keep 1 (omega (arith, r .two)) }
 
   -- ---- the number, by cases
-  data Says : ℕ → Type 0 where
-    short : length report < reportLength → Says 10
-    own : reportLength ≤ length report → CardsOwn (cardNumber card) → Says (cardNumber card)
-    other : reportLength ≤ length report → GoodCard card → parcelCount card ≢ 2 → Says 17
-    done : Reported card report → Says 0
-
   accepted : Reported card report → 0 ≡ hostNumber card report
   unfolding pairIn
   accepted r = report-done card report (r .room) (good-means card .1 (r .good)) (r .two) {a = answer} refl (number-means first second .1 (answered r)) refl .0
 
-  says : Says (hostNumber card report)
-  says =
-      elim (decLt (length report) reportLength) [
-        | yes l ↦ subst Says (report-short card report l .0) (short l)
-        | no l ↦ (let room : reportLength ≤ length report = omega arith in ⊎-elim (counted room) (refused room) (card-number-either card))
-      ]
-    where
-      refused : reportLength ≤ length report → CardsOwn (cardNumber card) → Says (hostNumber card report)
-      refused room o = subst Says (report-card card report room refl (own-some _ _ o refl .0) .0) (own room o)
+  host-back : {n : ℕ} → HostSays card report n → hostNumber card report ≡ n
+  host-back (host-short l) = sym (report-short card report l .0)
+  host-back (host-card room bad e) = sym (report-card card report room refl (λ z. bad (good-means card .0 z)) .0) ∙ e
+  host-back (host-count room good e) = sym (report-parcels card report room (good-means card .1 good) e .0)
+  host-back (host-done r) = sym (accepted r)
 
-      counted : reportLength ≤ length report → cardNumber card ≡ 0 → Says (hostNumber card report)
-      counted room z =
-          elim (ℕ-discrete (parcelCount card) 2) [
-            | yes e ↦ (let r : Reported card report = record { room = room; good = good-means card .0 z; two = e } in subst Says (accepted r) (done r))
-            | no e ↦ subst Says (report-parcels card report room z e .0) (other room (good-means card .0 z) e)
+  host-case : HostSays card report (hostNumber card report)
+  host-case = elim (decLt (length report) reportLength) [ yes l ↦ comes (host-short l) | no l ↦ roomy (omega arith) ]
+    where
+      comes : {n : ℕ} → HostSays card report n → HostSays card report (hostNumber card report)
+      comes c = subst (HostSays card report) (sym (host-back c)) c
+
+      counted : reportLength ≤ length report → GoodCard card → HostSays card report (hostNumber card report)
+      counted room good = elim (ℕ-discrete (parcelCount card) 2) [ yes e ↦ comes (host-done (record { room = room; good = good; two = e })) | no e ↦ comes (host-count room good e) ]
+
+      roomy : reportLength ≤ length report → HostSays card report (hostNumber card report)
+      roomy room =
+          elim (ℕ-discrete (cardNumber card) 0) [
+            | yes z ↦ counted room (good-means card .0 z)
+            | no z ↦ comes (host-card room (λ good. z (good-means card .1 good)) refl)
           ]
 
+  pub host-says : (n : ℕ) → (hostNumber card report ≡ n) ↔ HostSays card report n
+  host-says n = (λ e. subst (HostSays card report) e host-case, host-back)
+
   pub number-none-means : (hostNumber card report ≡ 0) ↔ Reported card report
-  number-none-means = go says
+  number-none-means = (λ e. go (host-says 0 .0 e) refl, λ r. host-back (host-done r))
     where
-      go : {n : ℕ} → Says n → (n ≡ 0) ↔ Reported card report
-      go (short l) = (λ e. absurd (omega arith), λ r. absurd (omega (arith, r .room)))
-      go (own room o) = (λ e. absurd (own-some _ _ o e .0 refl), λ r. absurd (not-good-means card .0 o (r .good)))
-      go (other room g e) = (λ z. absurd (omega arith), λ r. absurd (e (r .two)))
-      go (done r) = (λ e. r, λ q. refl)
-
-  pub number-short-means : (hostNumber card report ≡ 10) ↔ (length report < reportLength)
-  number-short-means = go says
-    where
-      go : {n : ℕ} → Says n → (n ≡ 10) ↔ (length report < reportLength)
-      go (short l) = (λ e. l, λ h. refl)
-      go (own room o) = (λ e. absurd (own-some _ _ o e .1 refl), λ h. absurd (omega arith))
-      go (other room g e) = (λ z. absurd (omega arith), λ h. absurd (omega arith))
-      go (done r) = (λ e. absurd (omega arith), λ h. absurd (omega (arith, r .room)))
-
-  pub number-own-means : (m : ℕ) → CardsOwn m → (hostNumber card report ≡ m) ↔ ((reportLength ≤ length report) × (cardNumber card ≡ m))
-  number-own-means m is = go says
-    where
-      go : {n : ℕ} → Says n → (n ≡ m) ↔ ((reportLength ≤ length report) × (cardNumber card ≡ m))
-      go (short l) = (λ e. absurd (own-some m m is refl .1 (sym e)), λ h. absurd (omega (arith, h .0)))
-      go (own room o) = (λ e. (room, e), λ h. h .1)
-      go (other room g e) = (λ z. absurd (own-some m m is refl .2 (sym z)), λ h. absurd (own-some m m is refl .0 (sym (h .1) ∙ good-means card .1 g)))
-      go (done r) = (λ e. absurd (own-some m m is refl .0 (sym e)), λ h. absurd (own-some m m is refl .0 (sym (h .1) ∙ good-means card .1 (r .good))))
-
-  pub number-not-good : reportLength ≤ length report → (GoodCard card → ⊥) → (hostNumber card report ≡ cardNumber card) × CardsOwn (cardNumber card)
-  number-not-good room bad = let o = not-good-means card .1 bad in (number-own-means (cardNumber card) o .1 (room, refl), o)
-
-  pub number-count-means : (hostNumber card report ≡ 17) ↔ ((reportLength ≤ length report) × GoodCard card × (parcelCount card ≢ 2))
-  number-count-means = go says
-    where
-      go : {n : ℕ} → Says n → (n ≡ 17) ↔ ((reportLength ≤ length report) × GoodCard card × (parcelCount card ≢ 2))
-      go (short l) = (λ e. absurd (omega arith), λ h. absurd (omega (arith, h .0)))
-      go (own room o) = (λ e. absurd (own-some _ _ o e .2 refl), λ h. absurd (not-good-means card .0 o (h .1)))
-      go (other room g e) = (λ z. (room, g, e), λ h. refl)
-      go (done r) = (λ e. absurd (omega arith), λ h. absurd (h .2 (r .two)))
+      go : {n : ℕ} → HostSays card report n → n ≡ 0 → Reported card report
+      go (host-short l) z = absurd (omega arith)
+      go (host-card room bad e) z = absurd (bad (good-means card .0 (e ∙ z)))
+      go (host-count room good e) z = absurd (omega arith)
+      go (host-done r) z = r
 
   pub number-either : (hostNumber card report ≡ 0) ⊎ ((hostNumber card report ≡ 10) ⊎ ((hostNumber card report ≡ 17) ⊎ CardsOwn (hostNumber card report)))
-  number-either = go says
+  number-either = go host-case
     where
-      go : {n : ℕ} → Says n → (n ≡ 0) ⊎ ((n ≡ 10) ⊎ ((n ≡ 17) ⊎ CardsOwn n))
-      go (short l) = inr (inl refl)
-      go (own room o) = inr (inr (inr o))
-      go (other room g e) = inr (inr (inl refl))
-      go (done r) = inl refl
+      go : {n : ℕ} → HostSays card report n → (n ≡ 0) ⊎ ((n ≡ 10) ⊎ ((n ≡ 17) ⊎ CardsOwn n))
+      go (host-short l) = inr (inl refl)
+      go (host-card room bad e) = inr (inr (inr (subst CardsOwn e (not-good-means card .1 bad))))
+      go (host-count room good e) = inr (inr (inl refl))
+      go (host-done r) = inl refl
 
   -- ---- the report
   pub report-kept : hostNumber card report ≢ 0 → hostReport card report ≡ report

@@ -1,14 +1,19 @@
--- What the call for the C host says: notions that the laws in proofs/ state it with.
+-- SCOPE 9: what the call for the C host says; notions that the laws in proofs/ state it with.
 --   Reported card report    the report has room for 38 bytes, the card is good and has two parcels: a report is written
+--   HostSays card report n  what it says that the call answers n: 10, then the number that refuses the card by itself, then 17, else 0. Number 13 is no
+--                           case: no accepted parcels give it
 --   ReportHas b a           the numbers of the answer a after the first three stand in the bytes b, each with the byte at which it begins
 use mathlib.Core.Path.{_≡_}
+use mathlib.Core.Logic.{_≢_}
 use mathlib.Core.List.{List}
 use Prim.Native.Nat.{ℕ, _+_, _*_, _≤_, _<_}
 use lib.ListN.{length}
+use Rattle.outline.specs.Refusals.{number, buffer-short, not-two-parcels}
 use Rattle.pair.specs.declared.Answer.{Answer}
 use Rattle.pair.specs.Meaning.{cellFrom}
 use Rattle.endian.specs.Bytes.{u16At}
 use Rattle.card.specs.Reading.{parcelCount}
+use Rattle.card.specs.CardNumber.{cardNumber}
 use Rattle.card.specs.Good.{GoodCard}
 use Rattle.host.specs.Report.{reportLength}
 
@@ -16,6 +21,12 @@ pub record Reported (card report : List ℕ) : Type 0 where
   pub room : reportLength ≤ length report
   pub good : GoodCard card
   pub two : parcelCount card ≡ 2
+
+pub data HostSays (card report : List ℕ) : ℕ → Type 0 where
+  host-short : length report < reportLength → HostSays card report (number buffer-short)
+  host-card : {n : ℕ} → reportLength ≤ length report → (GoodCard card → ⊥) → cardNumber card ≡ n → HostSays card report n
+  host-count : reportLength ≤ length report → GoodCard card → parcelCount card ≢ 2 → HostSays card report (number not-two-parcels)
+  host-done : Reported card report → HostSays card report 0
 
 pub record ReportHas (b : List ℕ) (a : Answer) : Type 0 where
   pub first : u16At b 6 ≡ a .first
