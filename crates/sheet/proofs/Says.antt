@@ -12,7 +12,7 @@ use native.Mathlib.Omega.{arith}
 use native.Mathlib.Decide.{decLt}
 use lib.Dec.{ltb}
 use borrow.Author.Tests.{ltb-true, ltb-false, lt-ltb, le-ltb}
-use Rattle.plane.proofs.Logic.{never, clash, is-false, or-means, eq-means, iff-join, iff-or}
+use Rattle.plane.proofs.Logic.{never, clash, is-false, is-true, or-means, eq-means, iff-join, iff-or}
 use Rattle.outline.specs.declared.Checked.{Checked}
 use Rattle.outline.specs.declared.Checked.the-variants.{Accepted, Refused}
 use Rattle.outline.specs.Region.{Region}
@@ -33,10 +33,6 @@ use Rattle.sheet.specs.Readings.{readNumber}
 use Rattle.sheet.specs.Says.{Unchangeable, lists-wrong, slot-past, damage-there, PutSays, put-done, put-refused, put-broken, RemoveSays, remove-done, remove-refused, remove-empty, ClearSays, clear-done, clear-refused, ReadSays, read-done, read-lists, read-slot, read-empty}
 use Rattle.sheet.proofs.Numbers.{put-first, put-next, remove-first, remove-next}
 use Rattle.sheet.proofs.Readings.{read-means}
-
-is-true : (x : Bool) → (x ≡ false → ⊥) → x ≡ true
-is-true true h = refl
-is-true false h = absurd (h refl)
 
 -- ---- 11, 8 and 12
 module _ (s : Sheet) (i : ℕ) where

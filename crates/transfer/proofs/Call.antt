@@ -12,11 +12,11 @@
 --   write-bytes      and the first so many bytes of the buffer are that card;  write-behind  the bytes behind it are as they were found
 use mathlib.Core.Path.{_≡_, refl, sym, _∙_, ap}
 use mathlib.Core.Logic.{_↔_, _⊎_, _≢_, inl, inr}
-use mathlib.Core.List.{List, [], _∷_, _++_}
+use mathlib.Core.List.{List, _++_}
 use Prim.Native.Nat.{ℕ, _+_, _-_, _≤_}
 use native.Mathlib.Omega.{arith}
 use lib.ListN.{length, getD, take, drop}
-use lib.Seq.{getD-append-add, getD-drop}
+use lib.Seq.{take-append-seam, getD-append-add, getD-drop}
 use borrow.Author.Tests.{eq-eqb, ne-eqb}
 use Rattle.layout.specs.Sheet.{Sheet, sheetOf}
 use Rattle.layout.specs.Layout.{layout}
@@ -63,10 +63,7 @@ module _ (κs : _) (a : _) (n : ℕ) (e : _) (post : load-reads.Post κs a n e) 
   load-laid done = post .1 ∙ simp (eq-eqb (loadNumber load-before load-card-bytes) 0 (sym (post .0) ∙ done))
 
 -- ---- writing
-take-front : (l m : List ℕ) → take (length l) (l ++ m) ≡ l
-take-front [] m = refl
-take-front (x ∷ l) m = ap (λ (t : List ℕ). x ∷ t) (take-front l m)
-
+-- what stands behind the list that was written
 behind : (l m : List ℕ) (j : ℕ) → length l ≤ j → getD (l ++ drop (length l) m) j 0 ≡ getD m j 0
 behind l m j past =
     let q : length l + (j - length l) ≡ j = omega arith in
@@ -118,7 +115,7 @@ module _ (κs : _) (a : _) (r : Written) (e : _) (post : write-reads.Post κs a 
     written-is = post .1 ∙ simp (eq-eqb (writeNumber write-sheet buffer) 0 (sym write-number ∙ done))
 
     pub write-bytes : take (r .length) buffer-after ≡ card
-    write-bytes = rw (write-length, written-is) (take-front card (drop (length card) buffer))
+    write-bytes = rw (write-length, written-is) (take-append-seam card (drop (length card) buffer))
 
     pub write-behind : (j : ℕ) → r .length ≤ j → getD buffer-after j 0 ≡ getD buffer j 0
     write-behind j past = ap (λ (l : List ℕ). getD l j 0) written-is ∙ behind card buffer j (rw write-length at past)

@@ -10,7 +10,7 @@ use lib.Dec.{ltb}
 use lib.ListN.{length}
 use borrow.Author.Tests.{ltb-true, ltb-false, lt-ltb, le-ltb}
 use Rattle.plane.specs.Choice.{pick}
-use Rattle.plane.proofs.Logic.{clash}
+use Rattle.plane.proofs.Logic.{clash, is-true}
 use Rattle.outline.specs.Refusals.{number, numberIf, buffer-short, sheet-lists, sheet-damaged}
 use Rattle.layout.specs.Sheet.{Sheet, wrongLists}
 use Rattle.layout.specs.Slots.{parcelAt}
@@ -23,10 +23,6 @@ use Rattle.transfer.specs.Load.{loadNumber}
 use Rattle.transfer.specs.Write.{cardOf, writeNumber}
 use Rattle.transfer.specs.Says.{LoadSays, load-done, load-lists, load-card, WriteSays, write-done, write-lists, write-damage, write-short}
 use Rattle.transfer.proofs.Orders.{load-order, write-order}
-
-is-true : (x : Bool) → (x ≡ false → ⊥) → x ≡ true
-is-true true h = refl
-is-true false h = absurd (h refl)
 
 -- ---- loading
 module _ (s : Sheet) (b : List ℕ) where
