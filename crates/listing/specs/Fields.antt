@@ -1,4 +1,4 @@
--- How a line of the list is read: notions that the laws in proofs/Meaning say with what a line says.
+-- SCOPE 10.2: how a line of the list is read; notions with which the laws in proofs/Meaning say what it says.
 --   Starts w           the word w is not empty
 --   between ws         words one behind the other, with a colon between two
 --   setBits s k        the bits below k that are set in s, in rising order

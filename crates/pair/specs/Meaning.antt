@@ -1,4 +1,4 @@
--- What the pair answer says, field by field: notions that the laws in proofs/ state it with.
+-- SCOPE 6 and 5: what the pair answer says, field by field; notions that the laws in proofs/ state it with.
 --   Answered first second         both regions keep rules 1 to 7: the answer is no refusal
 --   RefusedPair first second n g r    number n, region g and ring r refuse the pair: g is 1 and the first region is refused so; or g is 2, the first
 --                                 region keeps all rules, and the second is refused so

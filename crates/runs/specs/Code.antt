@@ -1,5 +1,5 @@
--- What a run of the code itself is: calls of the functions, each of which met its contract. `Post` is a function's contract as the checker generates it
--- from the source: of the arguments a at entry, the answer n and the arguments e at exit.
+-- SCOPE 1.3: what a run of the code itself is; calls of the functions, each of which met its contract. `Post` is a function's contract as the checker
+-- generates it from the source: of the arguments a at entry, the answer n and the arguments e at exit.
 --   Called c s n t     a call c that found the sheet s, answered n and left the sheet t, as the contract of the function that was called has it
 --   Ran cs s           the sheet s after a run of such calls, the newest first, each of which found what the one before it left. The first found
 --                      an empty sheet: every number was 0, or a clearing had answered 0

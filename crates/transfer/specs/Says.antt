@@ -1,5 +1,5 @@
--- What each number that loading or writing a card answers says: for each call its cases, one a number, and no others. That a call answers n exactly
--- when its case n holds: proofs/Call.
+-- SCOPE 8.5 and 8.6: what each number that loading or writing a card answers says; for each call its cases, one a number, and no others. That a call
+-- answers n exactly when its case n holds: proofs/Call.
 --   LoadSays s b n          of loading the card b into the sheet s: 0, 11, or the number that refuses the card by itself (2 to 7, 14, 15, 16)
 --   WriteSays s buffer n    of writing the sheet s into the buffer: 0, 11, then 12, then 10
 use mathlib.Core.Path.{_≡_}
