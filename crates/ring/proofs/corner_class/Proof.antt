@@ -1,13 +1,11 @@
 use mathlib.Core.Path.{_≡_, _∙_, ap₂}
 use mathlib.Core.Bool.{true}
-use native.Mathlib.Omega.{arith}
 use lib.IntN.{ℤ}
 use mir.Syntax.{w32}
 use mir.Val.{toZ, ofZ}
-use mir.Facts.{toZ-ofZ}
 use Rattle.plane.specs.Place.{placeOf, inRange}
 use Rattle.plane.specs.Points.{Point}
-use Rattle.plane.proofs.Place.{mag-in}
+use Rattle.plane.proofs.Place.{held}
 use Rattle.classes.specs.Classes.{vertexClass}
 use Rattle.ring.specs.Edges.{corner}
 use Rattle.ring.proofs.Stretch.{corner-readable}
@@ -27,19 +25,18 @@ add-y-of c = search needs
 y-of-requires : tie.Need-y-of-requires
 y-of-requires c κs = corner-readable (c .before .pre .1) (c .before .pre .2)
 
--- a coordinate in range is what is read of the word that holds it
-held : (z w : ℤ) → z ≡ w → inRange w ≡ true → toZ w32 (ofZ w32 z) ≡ w
-held z w e h = rw e (toZ-ofZ (record { sfits = omega (arith, mag-in w h) }))
+read-of : (z w : ℤ) → z ≡ w → inRange w ≡ true → toZ w32 (ofZ w32 z) ≡ w
+read-of z w e h = rw e (held w h)
 
 module _ (c : tie.After-y-of) where
   abbrev A : Point
   A = corner (c .before .before .args .xs .now) (c .before .before .args .from) (c .before .before .args .k)
 
   x-is : toZ w32 (ofZ w32 (c .before .x-of .result)) ≡ A .x
-  x-is = held _ _ (c .before .x-of .ensures) (corner-readable (c .before .before .pre .1) (c .before .before .pre .2) .range .x)
+  x-is = read-of _ _ (c .before .x-of .ensures) (corner-readable (c .before .before .pre .1) (c .before .before .pre .2) .range .x)
 
   y-is : toZ w32 (ofZ w32 (c .y-of .result)) ≡ A .y
-  y-is = held _ _ (c .y-of .ensures) (corner-readable (c .before .before .pre .1) (c .before .before .pre .2) .range .y)
+  y-is = read-of _ _ (c .y-of .ensures) (corner-readable (c .before .before .pre .1) (c .before .before .pre .2) .range .y)
 
 vertex-class-requires : tie.Need-vertex-class-requires
 vertex-class-requires c κs =
