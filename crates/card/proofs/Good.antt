@@ -18,7 +18,8 @@ use Rattle.card.specs.Reading.{parcelCount, slotAt, regionAt}
 use Rattle.card.specs.CardNumber.{wrongHeader, wrongParcels, wrongVertices, sizesNumber, shapeNumber, cardNumber}
 use Rattle.card.specs.Good.{GoodCard}
 use Rattle.card.specs.Right.{RightVertices}
-use Rattle.card.proofs.Tests.{Entry, header-means, header-right, entry-means, entry-right, parcels-mean, vertices-mean, sizes-mean}
+use Rattle.card.specs.Says.{Entry}
+use Rattle.card.proofs.Tests.{header-means, header-right, entry-means, entry-right, parcels-mean, vertices-mean, sizes-mean}
 use Rattle.card.proofs.Bounds.{entry-few, parcel-keeps}
 
 module _ (b : List ℕ) where

@@ -4,4 +4,5 @@ pub mod Tests
 pub mod Bounds
 pub mod Good
 pub mod Numbers
+pub mod Says
 pub mod Only

@@ -1,7 +1,7 @@
 -- The tests of a card's own rules and what they say, where a rule is kept: its test finds nothing.
---   Header b, header-means, header-right     rule 14, from its test and back;  header-wrong  the test finds something where it is broken;
+--   header-means, header-right     rule 14, from its test and back;  header-wrong  the test finds something where it is broken;
 --                      header-last  where only the length is left to test, it decides
---   Entry b k, entry-means, entry-right, entry-wrong, entry-last     rule 15 of one entry;  slot-rises  the test of its slot
+--   entry-means, entry-right, entry-wrong, entry-last     rule 15 of one entry;  slot-rises  the test of its slot
 --   parcels-mean, parcels-wrong, parcels-last       rule 15 of the card;  vertices-mean  rule 16
 --   sizes-mean         rules 2 and 3 of one parcel
 use mathlib.Core.Path.{_≡_, refl, sym, ap}
@@ -25,6 +25,7 @@ use Rattle.endian.specs.Bytes.{u16At}
 use Rattle.card.specs.Layout.{cardParcels, cardRings, cardVertices, lastCardSlot, parcelsAt, ringsAt, verticesAt, lengthOf}
 use Rattle.card.specs.Reading.{parcelCount, ringCount, vertexCount, slotAt, countAt, endsAt}
 use Rattle.card.specs.CardNumber.{wrongHeader, wrongEntry, wrongParcels, wrongVertices, sizesNumber}
+use Rattle.card.specs.Says.{Header, Entry}
 
 -- ---- tests that find nothing
 or-none : (x y : Bool) → (x || y ≡ false) ↔ ((x ≡ false) × (y ≡ false))
@@ -55,15 +56,6 @@ together true false e = e .1 refl
 together false y e = sym (e .0 refl)
 
 -- ---- rule 14
-pub record Header (b : List ℕ) : Type 0 where
-  pub few-parcels : parcelCount b ≤ cardParcels
-  pub few-rings : ringCount b ≤ cardRings
-  pub few-vertices : vertexCount b ≤ cardVertices
-  pub first : u16At b 6 ≡ parcelsAt
-  pub second : u16At b 8 ≡ ringsAt (parcelCount b)
-  pub third : u16At b 10 ≡ verticesAt (parcelCount b) (ringCount b)
-  pub total : length b ≡ lengthOf (parcelCount b) (ringCount b) (vertexCount b)
-
 module _ (b : List ℕ) where
   header-tests : (wrongHeader b ≡ false)
       ↔ ((parcelsAt ≤ length b) × ((parcelCount b ≤ cardParcels) × ((ringCount b ≤ cardRings) × ((vertexCount b ≤ cardVertices)
@@ -110,12 +102,6 @@ module _ (b : List ℕ) where
   )
 
 -- ---- rule 15
-pub record Entry (b : List ℕ) (k : ℕ) : Type 0 where
-  pub rises : 0 < k → slotAt b (k - 1) < slotAt b k
-  pub low : slotAt b k ≤ lastCardSlot
-  pub some : countAt b k ≢ 0
-  pub few : countAt b k ≤ mostRings
-
 module _ (b : List ℕ) (k : ℕ) where
   pub slot-rises : (ltb 0 k && leb (slotAt b k) (slotAt b (k - 1)) ≡ false) ↔ (0 < k → slotAt b (k - 1) < slotAt b k)
   slot-rises = (λ h l. leb-false (slotAt b k) (slotAt b (k - 1)) (rw (lt-ltb 0 k l) at h), back k)

@@ -2,5 +2,6 @@ pub mod Layout
 pub mod Reading
 pub mod CardNumber
 pub mod Good
+pub mod Says
 pub mod Right
 pub mod Pairs
