@@ -16,7 +16,6 @@ use layout::storage::is_empty;
 use layout::table::cell_in;
 use layout::table::row_in;
 use layout::writing::write_parcel;
-use outline::Checked;
 use outline::check_region;
 use outline::number_of;
 use outline::refusals::SHEET_LISTS;
@@ -43,11 +42,7 @@ fn put_number(
     if n != 0 {
         return n;
     }
-    let checked = check_region(outline, ends);
-    let Checked::Accepted = checked else {
-        return number_of(checked);
-    };
-    0
+    number_of(check_region(outline, ends))
 }
 
 fn remove_number(xs: &[i32], records: &[u16], relations: &[u16], slot: u16) -> u16

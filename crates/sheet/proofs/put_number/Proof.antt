@@ -26,36 +26,15 @@ module _ (c : tie.Else1) where
 check-region-requires : tie.Need-check-region-requires
 check-region-requires c κs = search needs
 
-enum-told : tie.Need-enum-told
-enum-told c = search needs
-
-enum-told-2 : tie.Need-enum-told-2
-enum-told-2 c = search needs
-
 number-of-requires : tie.Need-number-of-requires
 number-of-requires c κs = search needs
 
 returns-2 : tie.Need-returns-2
 returns-2 c =
-    let k = c .before .before .before in
+    let k = c .before in
     let e = k .before in
     c .number-of .ensures ∙ ap numberOf (k .check-region .ensures) ∙ put-next (before e) _ _ (allowed e)
 
-returns-3 : tie.Need-returns-3
-returns-3 c =
-    let k = c .before .before in
-    let e = k .before in
-    ap numberOf (sym (c .enum-told .given .1) ∙ k .check-region .ensures) ∙ put-next (before e) _ _ (allowed e)
-
 pub put-number-spec : {M : Type 1} → statement M
 put-number-spec =
-    tie.close
-    (tie.spec
-    change-number-requires
-    returns
-    check-region-requires
-    enum-told
-    enum-told-2
-    number-of-requires
-    returns-2
-    returns-3)
+    tie.close (tie.spec change-number-requires returns check-region-requires number-of-requires returns-2)
