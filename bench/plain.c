@@ -2,7 +2,6 @@
 #include "plain.h"
 #include <string.h>
 
-typedef struct { int32_t west, south, east, north; } Box;
 typedef struct { uint32_t set, pieces; } Seen;
 typedef struct { int64_t ax, ay, bx, by; } Edge;
 
@@ -173,10 +172,14 @@ static Seen seen_from(Box b, Region a) {
     return all;
 }
 
-uint32_t plain_relation(Region a, Region b) {
-    Seen seen = seen_from(box_of(b.xy, vertices_of(b)), a);
+Box plain_box(Region r) { return box_of(r.xy, vertices_of(r)); }
+
+uint32_t plain_seen(Box b, Region a) {
+    Seen seen = seen_from(b, a);
     return seen.set + 65536 * seen.pieces;
 }
+
+uint32_t plain_relation(Region a, Region b) { return plain_seen(plain_box(b), a); }
 
 /* ---- the pair answer */
 
@@ -203,7 +206,7 @@ static int holds(Box a, Box b, uint32_t relation, int32_t west, int32_t east, in
 uint32_t plain_pair(Region a, Region b, uint32_t *rest) {
     *rest = 0;
     if (plain_check(a) != 0 || plain_check(b) != 0) return 0;
-    Box box_a = box_of(a.xy, vertices_of(a)), box_b = box_of(b.xy, vertices_of(b));
+    Box box_a = plain_box(a), box_b = plain_box(b);
     Seen there = seen_from(box_b, a), back = seen_from(box_a, b);
     int32_t x[4], y[4];
     size_t columns = lines_of(box_a.west, box_a.east, box_b.west, box_b.east, x) - 1;

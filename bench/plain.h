@@ -21,12 +21,17 @@ typedef struct {
     uint16_t relations[SLOTS * SLOTS];
 } Sheet;
 
+typedef struct { int32_t west, south, east, north; } Box;
+
 static inline size_t vertices_of(Region r) { return r.ends[r.rings - 1]; }
 
 /* Number and 65,536 times the ring of a refusal, or 0. Rule 6 looks at all pairs of edges. */
 uint32_t plain_check(Region r);
 /* The relation of a to b and 65,536 times the pieces of a: every edge is walked tile by tile. */
 uint32_t plain_relation(Region a, Region b);
+/* The two halves of it: the box of a region, and what a region shows of a box that is at hand. */
+Box plain_box(Region r);
+uint32_t plain_seen(Box b, Region a);
 /* Both checks, both relations, matrix and directions: the relation of a to b and 65,536 times that of b to a, or 0 beside a refusal.
    What else is in a pair answer is written to *rest, so that no compiler leaves it out. */
 uint32_t plain_pair(Region a, Region b, uint32_t *rest);

@@ -151,8 +151,35 @@ static void zigzag(Parcel *p, double turned) {
     end_ring(p, n);
 }
 
+/* A small shape with one vertex far out, as a parcel with a lane: its bands are wide, so all the rest lies in one of them. */
+static void star_with_a_lane(Parcel *p) {
+    size_t n = 0;
+    state = 2862933555777941757u;
+    p->rings = 0;
+    star(p, &n, 64, -900000, -900000, 15000);
+    p->xy[2 * 56] = 900000; /* vertex 56 looks north-east: further out on its own ray no edge meets another */
+    p->xy[2 * 56 + 1] = 900000;
+}
+
+static void comb_with_a_lane(Parcel *p) {
+    size_t n = 0;
+    p->rings = 0;
+    add_vertex(p, &n, -900000, 0);
+    for (int tooth = 0; tooth < 16; tooth++) {
+        double west = -900000 + 1000.0 * tooth;
+        add_vertex(p, &n, west, 10000);
+        add_vertex(p, &n, west + 500, 10000);
+        if (tooth == 15) continue;
+        add_vertex(p, &n, west + 500, 5000);
+        add_vertex(p, &n, west + 1000, 5000);
+    }
+    add_vertex(p, &n, 900000, -900000);
+    end_ring(p, n);
+}
+
 const char *hard_shape(size_t k, Parcel *p) {
-    static const char *names[] = { "smooth ring", "square spiral", "spiral at 22 degrees", "diamond spiral", "flat zigzag", "zigzag at 22 degrees", "diagonal zigzag" };
+    static const char *names[] = { "smooth ring", "square spiral", "spiral at 22 degrees", "diamond spiral", "flat zigzag", "zigzag at 22 degrees", "diagonal zigzag",
+        "star with a lane", "comb with a lane" };
     const double eighth = 0.7853981633974483;
     if (sizeof names / sizeof *names <= k) return 0;
     if (k == 0) {
@@ -162,8 +189,12 @@ const char *hard_shape(size_t k, Parcel *p) {
         end_ring(p, n);
     } else if (k < 4) {
         spiral(p, 0, 0, 300000, (double)(k - 1) * eighth / 2);
-    } else {
+    } else if (k < 7) {
         zigzag(p, (double)(k - 4) * eighth / 2);
+    } else if (k == 7) {
+        star_with_a_lane(p);
+    } else {
+        comb_with_a_lane(p);
     }
     return names[k];
 }
