@@ -1,4 +1,4 @@
--- Document 01, an error that a trained hand makes: on replacement the row is renewed and the column left old. On any sheet, also on one that
+-- An error that a trained hand makes: on replacement the row is renewed and the column left old. On any sheet, also on one that
 -- others have written, both are renewed.
 --   row-renewed, column-renewed    the cells of slot i, once p has come there, are those of what then stands
 -- Where the outline R has come into slot i of an undamaged sheet, and k is another slot:

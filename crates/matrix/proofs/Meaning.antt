@@ -73,32 +73,23 @@ module _ (L M : Lines) (hL : LinesInRange L) (hM : LinesInRange M) where
         rw e (iff-join (second-value x y) second)
 
 -- ---- what a cell holds, by the tiles that a region has
+holds-told : {L M : Lines} {A B : ℕ → Type 0} {p q u v : ℤ} → ((t : ℕ) → t < 9 → A t → B t) → HoldsWhere L M A p q u v → HoldsWhere L M B p q u v
+holds-told f h =
+    record {
+      west = h .west;
+      east = h .east;
+      south = h .south;
+      north = h .north;
+      tile = h .tile;
+      is-tile = h .is-tile;
+      in-column = h .in-column;
+      in-row = h .in-row;
+      there = f (h .tile) (h .is-tile) (h .there);
+    }
+
 pub holds-where : (L M : Lines) (relation : ℕ) (Has : ℕ → Type 0) → ((t : ℕ) → t < 9 → (bit relation t ≡ 1) ↔ Has t)
     → (p q u v : ℤ) → Holds L M relation p q u v ↔ HoldsWhere L M Has p q u v
-holds-where L M relation Has tells p q u v = (
-  λ h. record {
-    west = h .west;
-    east = h .east;
-    south = h .south;
-    north = h .north;
-    tile = h .tile;
-    is-tile = h .is-tile;
-    in-column = h .in-column;
-    in-row = h .in-row;
-    there = tells (h .tile) (h .is-tile) .0 (h .there);
-  },
-  λ h. record {
-    west = h .west;
-    east = h .east;
-    south = h .south;
-    north = h .north;
-    tile = h .tile;
-    is-tile = h .is-tile;
-    in-column = h .in-column;
-    in-row = h .in-row;
-    there = tells (h .tile) (h .is-tile) .1 (h .there);
-  },
-)
+holds-where L M relation Has tells p q u v = (holds-told (λ t l. tells t l .0), holds-told (λ t l. tells t l .1))
 
 -- ---- the nine values by row
 pub rows-at : (l : List ℕ) (i j : ℕ) → i < 3 → j < 3 → valueAt (threeRows l) i j ≡ getD l (3 * i + j) 0

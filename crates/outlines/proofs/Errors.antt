@@ -1,4 +1,4 @@
--- Document 01, "Errors a trained hand makes", shut out by the definitions.
+-- Four of the errors that a trained hand makes, shut out by the definitions.
 --   border-once       an edge on a border line counts for one tile: outline 7 has no B
 --   corner-once       a corner crossed by an edge cuts it once: outline 5 has 6 pieces, not 7
 --   centre-looked-at  not only edges are looked at: outline 6 has B, which none of its edges has

@@ -13,7 +13,7 @@ use outline::refusals::NO_TILE;
 use plane::Box;
 use relation::region_box;
 use relation::region_seen;
-use ring::Seen;
+use seen::Seen;
 
 // The eight directions without O.
 const EIGHT: u16 = 495;

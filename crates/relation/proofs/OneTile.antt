@@ -23,7 +23,7 @@ use Rattle.plane.proofs.TileSet.{bit-le, set-same}
 use Rattle.edge.specs.Walk.{tileOf}
 use Rattle.edge.proofs.Weights.{InCol, EqualEnds}
 use Rattle.edge.proofs.OneTile.{tile-lt}
-use Rattle.ring.specs.declared.Seen.{Seen}
+use Rattle.seen.specs.declared.Seen.{Seen}
 use Rattle.ring.specs.Edges.{ringEdge}
 use Rattle.ring.specs.RingBox.{stretchBox}
 use Rattle.ring.specs.Repeated.{equalEnds}

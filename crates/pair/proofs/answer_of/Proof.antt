@@ -4,7 +4,7 @@ use borrow.Author.Needs.{needs}
 use borrow.Author.Tests.{eq-eqb, ne-eqb}
 use Rattle.plane.specs.declared.Box.{Box}
 use Rattle.plane.specs.Placed.{BoxInPlaces, Upright}
-use Rattle.ring.specs.declared.Seen.{Seen}
+use Rattle.seen.specs.declared.Seen.{Seen}
 use Rattle.outline.specs.Region.{Region, regionOf}
 use Rattle.outline.specs.Rules.{Keeps}
 use Rattle.relation.specs.Relation.{regionBox, regionSeen}

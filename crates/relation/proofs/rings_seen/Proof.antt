@@ -10,11 +10,11 @@ use Rattle.plane.specs.declared.Box.{Box}
 use Rattle.plane.specs.Folds.{sumTo}
 use Rattle.plane.proofs.Folds.{sum-step, sum-none}
 use Rattle.plane.proofs.TileSet.{anySet, any-set-none, any-set-more}
-use Rattle.ring.specs.declared.Seen.{Seen}
+use Rattle.seen.specs.declared.Seen.{Seen}
 use Rattle.ring.specs.Stretch.{Stretch}
 use Rattle.ring.specs.RingBox.{stretchBox, covers}
 use Rattle.ring.specs.RingTiles.{ringHas, ringPieces}
-use Rattle.ring.specs.RingSeen.{ringSeen}
+use Rattle.seen.specs.RingSeen.{ringSeen}
 use Rattle.ring.proofs.RingBox.{stretch-covers}
 use Rattle.outline.specs.Region.{Region, regionOf, mostVertices, startOf, sizeOf, lastEnd}
 use Rattle.outline.specs.Rules.{Keeps}

@@ -2,7 +2,7 @@ use mathlib.Core.Path.{_≡_, sym, ap, ap₂, _∙_, subst}
 use mathlib.Core.Bool.{false}
 use Rattle.plane.specs.Placed.{BoxInPlaces, Upright}
 use Rattle.plane.specs.declared.Box.{Box}
-use Rattle.ring.specs.declared.Seen.{Seen}
+use Rattle.seen.specs.declared.Seen.{Seen}
 use Rattle.outline.specs.Region.{Region, regionOf}
 use Rattle.outline.specs.Rules.{Keeps}
 use Rattle.relation.specs.Relation.{regionBox, relationOf}

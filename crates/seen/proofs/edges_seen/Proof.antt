@@ -2,11 +2,11 @@
 use mathlib.Core.Path.{_≡_, sym, _∙_, ap}
 use Prim.Native.Nat.{ℕ, _-_, _≤_}
 use native.Mathlib.Omega.{arith}
-use Rattle.ring.specs.Pass.{seenTo}
-use Rattle.ring.proofs.Shown.{seen-none, seen-all}
+use Rattle.seen.specs.Pass.{seenTo}
+use Rattle.seen.proofs.Shown.{seen-none, seen-all}
 use borrow.Author.Needs.{needs}
-use Rattle.ring.proofs.edges_seen.Statement.{statement}
-use Rattle.ring.proofs.edges_seen.Tie as tie
+use Rattle.seen.proofs.edges_seen.Statement.{statement}
+use Rattle.seen.proofs.edges_seen.Tie as tie
 
 abbrev Inv-loop : tie.InvT-loop
 Inv-loop b xs from n c s₀ at₀ s at = (at ≤ n) × (s ≡ seenTo b xs from n at)

@@ -6,8 +6,8 @@ use Prim.Native.Nat.{ℕ}
 use lib.IntN.{ℤ}
 use Rattle.plane.specs.TileSet.{setOf}
 use Rattle.plane.specs.declared.Box.{Box}
-use Rattle.ring.specs.declared.Seen.{Seen}
+use Rattle.seen.specs.declared.Seen.{Seen}
 use Rattle.ring.specs.RingTiles.{edgesHave, ringHas, ringPieces}
 
 abbrev pub edgesSeen : Box → List ℤ → (from n : ℕ) → Seen
 edgesSeen b xs from n = record { set = setOf (edgesHave b xs from n) 9; pieces = ringPieces b xs from n }

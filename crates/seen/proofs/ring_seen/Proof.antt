@@ -12,15 +12,15 @@ use Rattle.plane.specs.declared.Box.{Box}
 use Rattle.plane.specs.TileSet.{setOf, bit}
 use Rattle.plane.proofs.Logic.{clash, is-false}
 use Rattle.plane.proofs.TileSet.{set-means}
-use Rattle.ring.specs.declared.Seen.{Seen}
+use Rattle.seen.specs.declared.Seen.{Seen}
 use Rattle.ring.specs.RingBox.{stretchBox, covers}
 use Rattle.ring.specs.Enclosed.{encloses}
 use Rattle.ring.specs.RingTiles.{edgesHave, ringHas}
-use Rattle.ring.specs.RingSeen.{edgesSeen, ringSeen}
+use Rattle.seen.specs.RingSeen.{edgesSeen, ringSeen}
 use Rattle.ring.proofs.RingBox.{covers-through}
-use Rattle.ring.proofs.Pass.{without-centre, there-already, with-centre}
-use Rattle.ring.proofs.ring_seen.Statement.{statement}
-use Rattle.ring.proofs.ring_seen.Tie as tie
+use Rattle.seen.proofs.Pass.{without-centre, there-already, with-centre}
+use Rattle.seen.proofs.ring_seen.Statement.{statement}
+use Rattle.seen.proofs.ring_seen.Tie as tie
 
 edges-seen-requires : tie.Need-edges-seen-requires
 edges-seen-requires c κs = search needs

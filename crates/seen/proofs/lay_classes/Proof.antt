@@ -4,10 +4,10 @@ use Prim.Native.Nat.{ℕ, _+_, _-_, _≤_, _<_}
 use native.Mathlib.Omega.{arith}
 use lib.ListN.{length, getD, length-set}
 use Rattle.plane.proofs.Lists.{tab-more}
-use Rattle.ring.specs.Pass.{cornerClass}
+use Rattle.seen.specs.Pass.{cornerClass}
 use borrow.Author.Needs.{needs}
-use Rattle.ring.proofs.lay_classes.Statement.{statement}
-use Rattle.ring.proofs.lay_classes.Tie as tie
+use Rattle.seen.proofs.lay_classes.Statement.{statement}
+use Rattle.seen.proofs.lay_classes.Tie as tie
 
 abbrev Inv-loop : tie.InvT-loop
 Inv-loop c xs from n at m to₀ k₀ to k = (k ≤ m) × (length to ≡ length to₀) × ((i : ℕ) → i < k → getD to i 0 ≡ cornerClass c xs from (at + i))

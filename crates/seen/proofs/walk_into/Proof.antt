@@ -6,12 +6,12 @@ use Rattle.edge.specs.declared.Walk.{Walk}
 use Rattle.edge.specs.Drawn.{walkOf}
 use Rattle.classes.specs.Classes.{entryOf, listBy}
 use Rattle.classes.proofs.Entries.{told-drawn, open-entry}
 use Rattle.ring.specs.Edges.{ringEdge}
 use Rattle.ring.proofs.Stretch.{edge-in-places}
-use Rattle.ring.proofs.Pass.{edge-to-low}
+use Rattle.seen.proofs.Pass.{edge-to-low}
 use borrow.Author.Needs.{needs}
-use Rattle.ring.proofs.walk_into.Statement.{statement}
-use Rattle.ring.proofs.walk_into.Tie as tie
+use Rattle.seen.proofs.walk_into.Statement.{statement}
+use Rattle.seen.proofs.walk_into.Tie as tie
 
 walk-told-requires : tie.Need-walk-told-requires
 walk-told-requires c κs = search needs

@@ -1,7 +1,7 @@
 use borrow.Author.Tests.{eq-eqb, ne-eqb}
 use borrow.Author.Needs.{needs}
-use Rattle.ring.proofs.edge_to.Statement.{statement}
-use Rattle.ring.proofs.edge_to.Tie as tie
+use Rattle.seen.proofs.edge_to.Statement.{statement}
+use Rattle.seen.proofs.edge_to.Tie as tie
 
 sub-result : tie.Need-sub-result
 sub-result c = search needs

@@ -38,16 +38,16 @@ use Rattle.classes.specs.Classes.{vertexClass, startClass, endClass, listBy}
 use Rattle.classes.proofs.Classes.{vertex-class-le}
 use Rattle.classes.proofs.Told.{list-open, list-by, one-by, start-by}
 use Rattle.classes.proofs.Starts.{starts-in}
 use Rattle.ring.specs.Edges.{corner, after, ringEdge}
 use Rattle.ring.specs.Stretch.{Stretch}
 use Rattle.ring.specs.Repeated.{equalEnds}
 use Rattle.ring.specs.RingTiles.{edgesHave, ringPieces}
-use Rattle.ring.specs.RingSeen.{edgesSeen}
-use Rattle.ring.specs.Pass.{edgeTo, nowhere, classingBox, cornerClass, listInto, seenTo}
-use Rattle.ring.specs.declared.Seen.{Seen}
+use Rattle.seen.specs.RingSeen.{edgesSeen}
+use Rattle.seen.specs.Pass.{edgeTo, nowhere, classingBox, cornerClass, listInto, seenTo}
+use Rattle.seen.specs.declared.Seen.{Seen}
 use Rattle.ring.proofs.Edges.{after-inner, after-last}
 use Rattle.ring.proofs.Stretch.{edge-in-places}
-use Rattle.ring.proofs.Pass.{edge-to-low, edge-to-ends, sum-round, any-round}
+use Rattle.seen.proofs.Pass.{edge-to-low, edge-to-ends, sum-round, any-round}
 
 -- ---- edge by edge
 module _ (b : Box) (xs : List ℤ) (from n : ℕ) where

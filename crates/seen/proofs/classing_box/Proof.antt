@@ -1,10 +1,10 @@
 use mathlib.Core.Path.{_≡_, sym, _∙_, ap}
 use mathlib.Core.Bool.{true, false}
 use Rattle.ring.specs.Repeated.{equalEnds}
-use Rattle.ring.specs.Pass.{classingBox}
+use Rattle.seen.specs.Pass.{classingBox}
 use borrow.Author.Needs.{needs}
-use Rattle.ring.proofs.classing_box.Statement.{statement}
-use Rattle.ring.proofs.classing_box.Tie as tie
+use Rattle.seen.proofs.classing_box.Statement.{statement}
+use Rattle.seen.proofs.classing_box.Tie as tie
 
 ring-edge-requires : tie.Need-ring-edge-requires
 ring-edge-requires c κs = search needs

@@ -4,13 +4,13 @@ use Prim.Native.Nat.{ℕ, _+_, _-_, _*_, _≤_, _<_}
 use native.Mathlib.Omega.{arith}
 use native.Mathlib.Nat.{add-zero}
 use lib.Bits.{bitOr}
-use Rattle.ring.specs.declared.Seen.{Seen}
-use Rattle.ring.specs.Pass.{edgeTo, classingBox, cornerClass, seenTo}
-use Rattle.ring.proofs.Pass.{edge-to-next}
-use Rattle.ring.proofs.Shown.{seen-step, seen-few, seen-set, class-few}
+use Rattle.seen.specs.declared.Seen.{Seen}
+use Rattle.seen.specs.Pass.{edgeTo, classingBox, cornerClass, seenTo}
+use Rattle.seen.proofs.Pass.{edge-to-next}
+use Rattle.seen.proofs.Shown.{seen-step, seen-few, seen-set, class-few}
 use borrow.Author.Needs.{needs}
-use Rattle.ring.proofs.classed_seen.Statement.{statement}
-use Rattle.ring.proofs.classed_seen.Tie as tie
+use Rattle.seen.proofs.classed_seen.Statement.{statement}
+use Rattle.seen.proofs.classed_seen.Tie as tie
 
 abbrev Inv-loop : tie.InvT-loop
 Inv-loop b xs from n at m first classes set₀ pieces₀ start₀ k₀ set pieces start k =

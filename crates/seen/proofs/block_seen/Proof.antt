@@ -5,12 +5,12 @@ use native.Mathlib.Omega.{arith}
 use lib.IntN.{ℤ}
 use Rattle.plane.specs.Placed.{BoxInPlaces}
 use Rattle.plane.specs.declared.Box.{Box}
-use Rattle.ring.specs.Pass.{cornerClass, Classes}
-use Rattle.ring.proofs.Pass.{edge-to-low}
-use Rattle.ring.proofs.Shown.{classing-in-places}
+use Rattle.seen.specs.Pass.{cornerClass, Classes}
+use Rattle.seen.proofs.Pass.{edge-to-low}
+use Rattle.seen.proofs.Shown.{classing-in-places}
 use borrow.Author.Needs.{needs}
-use Rattle.ring.proofs.block_seen.Statement.{statement}
-use Rattle.ring.proofs.block_seen.Tie as tie
+use Rattle.seen.proofs.block_seen.Statement.{statement}
+use Rattle.seen.proofs.block_seen.Tie as tie
 
 slice-aggregate-lay-classes : tie.Need-slice-aggregate-lay-classes
 slice-aggregate-lay-classes c = search needs

@@ -1,4 +1,4 @@
--- How the pass over a ring's edges goes. No rule of document 01 stands here: these definitions only carry the proof that it answers
+-- How the pass over a ring's edges goes. No rule of docs/SCOPE.md stands here: these definitions only carry the proof that it answers
 -- `edgesSeen` (proofs/Shown, `seen-all`).
 --   edgeTo n k              the edge that ends in vertex k of a ring of n: edge k - 1, and the last one where k is 0
 --   nowhere                 a box without inside
@@ -21,9 +21,9 @@ use Rattle.plane.specs.TileSet.{setOf}
 use Rattle.plane.specs.declared.Box.{Box}
 use Rattle.edge.specs.TileList.{countIn, standsIn}
 use Rattle.classes.specs.Classes.{vertexClass, listBy}
 use Rattle.ring.specs.Edges.{corner, ringEdge}
 use Rattle.ring.specs.Repeated.{equalEnds}
-use Rattle.ring.specs.declared.Seen.{Seen}
+use Rattle.seen.specs.declared.Seen.{Seen}
 
 abbrev pub edgeTo : (n k : ℕ) → ℕ
 edgeTo n k = pick (eqb k 0) (n - 1) (k - 1)

@@ -7,11 +7,11 @@ use Rattle.plane.specs.Place.{placeOf, inRange}
 use Rattle.plane.specs.Points.{Point}
 use Rattle.plane.proofs.Place.{held}
 use Rattle.classes.specs.Classes.{vertexClass}
 use Rattle.ring.specs.Edges.{corner}
 use Rattle.ring.proofs.Stretch.{corner-readable}
 use borrow.Author.Needs.{needs}
-use Rattle.ring.proofs.corner_class.Statement.{statement}
-use Rattle.ring.proofs.corner_class.Tie as tie
+use Rattle.seen.proofs.corner_class.Statement.{statement}
+use Rattle.seen.proofs.corner_class.Tie as tie
 
 add-x-of : tie.Need-add-x-of
 add-x-of c = search needs

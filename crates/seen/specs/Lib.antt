@@ -1,0 +1,2 @@
+pub mod RingSeen
+pub mod Pass
