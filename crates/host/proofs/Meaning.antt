@@ -45,6 +45,7 @@ use Rattle.card.specs.Good.{GoodCard, CardsOwn}
 use Rattle.card.specs.Pairs.{pairIn}
 use Rattle.card.proofs.Good.{good-means}
 use Rattle.card.proofs.Numbers.{not-good-means}
+use Rattle.card.proofs.Says.{card-says}
 use Rattle.host.specs.Meaning.{Reported, HostSays, host-short, host-card, host-count, host-done, ReportHas}
 use Rattle.host.specs.Report.{reportNumbers, reportLength, reportBytes, hostNumber, hostReport}
 use Rattle.host.proofs.Report.{report-short, report-card, report-parcels, report-done}
@@ -85,7 +86,7 @@ module _ (card report : List ℕ) where
 
   host-back : {n : ℕ} → HostSays card report n → hostNumber card report ≡ n
   host-back (host-short l) = sym (report-short card report l .0)
-  host-back (host-card room bad e) = sym (report-card card report room refl (λ z. bad (good-means card .0 z)) .0) ∙ e
+  host-back (host-card {n} room bad c) = sym (report-card card report room refl (λ z. bad (good-means card .0 z)) .0) ∙ card-says card n .1 c
   host-back (host-count room good e) = sym (report-parcels card report room (good-means card .1 good) e .0)
   host-back (host-done r) = sym (accepted r)
 
@@ -102,7 +103,7 @@ module _ (card report : List ℕ) where
       roomy room =
           elim (ℕ-discrete (cardNumber card) 0) [
             | yes z ↦ counted room (good-means card .0 z)
-            | no z ↦ comes (host-card room (λ good. z (good-means card .1 good)) refl)
+            | no z ↦ comes (host-card room (λ good. z (good-means card .1 good)) (card-says card (cardNumber card) .0 refl))
           ]
 
   pub host-says : (n : ℕ) → (hostNumber card report ≡ n) ↔ HostSays card report n
@@ -113,7 +114,7 @@ module _ (card report : List ℕ) where
     where
       go : {n : ℕ} → HostSays card report n → n ≡ 0 → Reported card report
       go (host-short l) z = absurd (omega arith)
-      go (host-card room bad e) z = absurd (bad (good-means card .0 (e ∙ z)))
+      go (host-card {n} room bad c) z = absurd (bad (good-means card .0 (card-says card n .1 c ∙ z)))
       go (host-count room good e) z = absurd (omega arith)
       go (host-done r) z = r
 
@@ -122,7 +123,7 @@ module _ (card report : List ℕ) where
     where
       go : {n : ℕ} → HostSays card report n → (n ≡ 0) ⊎ ((n ≡ 10) ⊎ ((n ≡ 17) ⊎ CardsOwn n))
       go (host-short l) = inr (inl refl)
-      go (host-card room bad e) = inr (inr (inr (subst CardsOwn e (not-good-means card .1 bad))))
+      go (host-card {n} room bad c) = inr (inr (inr (subst CardsOwn (card-says card n .1 c) (not-good-means card .1 bad))))
       go (host-count room good e) = inr (inr (inl refl))
       go (host-done r) = inl refl
 

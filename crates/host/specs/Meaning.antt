@@ -13,8 +13,8 @@ use Rattle.pair.specs.declared.Answer.{Answer}
 use Rattle.pair.specs.Meaning.{cellFrom}
 use Rattle.endian.specs.Bytes.{u16At}
 use Rattle.card.specs.Reading.{parcelCount}
-use Rattle.card.specs.CardNumber.{cardNumber}
 use Rattle.card.specs.Good.{GoodCard}
+use Rattle.card.specs.Says.{CardSays}
 use Rattle.host.specs.Report.{reportLength}
 
 pub record Reported (card report : List ℕ) : Type 0 where
@@ -24,7 +24,7 @@ pub record Reported (card report : List ℕ) : Type 0 where
 
 pub data HostSays (card report : List ℕ) : ℕ → Type 0 where
   host-short : length report < reportLength → HostSays card report (number buffer-short)
-  host-card : {n : ℕ} → reportLength ≤ length report → (GoodCard card → ⊥) → cardNumber card ≡ n → HostSays card report n
+  host-card : {n : ℕ} → reportLength ≤ length report → (GoodCard card → ⊥) → CardSays card n → HostSays card report n
   host-count : reportLength ≤ length report → GoodCard card → parcelCount card ≢ 2 → HostSays card report (number not-two-parcels)
   host-done : Reported card report → HostSays card report 0
 

@@ -10,7 +10,7 @@
 --   write-kept       beside a number that is not 0 the length is 0 and the buffer is as it was found
 --   write-length     where the number is 0, the length is that of the card of what stands
 --   write-bytes      and the first so many bytes of the buffer are that card;  write-behind  the bytes behind it are as they were found
-use mathlib.Core.Path.{_≡_, refl, sym, _∙_, ap}
+use mathlib.Core.Path.{_≡_, refl, sym, _∙_, ap, subst}
 use mathlib.Core.Logic.{_↔_, _⊎_, _≢_, inl, inr}
 use mathlib.Core.List.{List, _++_}
 use Prim.Native.Nat.{ℕ, _+_, _-_, _≤_}
@@ -24,6 +24,7 @@ use Rattle.layout.specs.Slots.{parcelAt}
 use Rattle.card.specs.Reading.{parcelIn}
 use Rattle.card.specs.Good.{CardsOwn}
 use Rattle.card.proofs.Numbers.{not-good-means}
+use Rattle.card.proofs.Says.{card-says}
 use Rattle.transfer.specs.declared.Written.{Written}
 use Rattle.transfer.specs.Load.{loadNumber, load}
 use Rattle.transfer.specs.Write.{cardOf, writeNumber, written, write}
@@ -52,7 +53,7 @@ module _ (κs : _) (a : _) (n : ℕ) (e : _) (post : load-reads.Post κs a n e) 
       go : {m : ℕ} → LoadSays load-before load-card-bytes m → n ≡ m → (n ≡ 0) ⊎ ((n ≡ 11) ⊎ CardsOwn n)
       go (load-done right good) q = inl q
       go (load-lists w) q = inr (inl q)
-      go (load-card right bad c) q = inr (inr (rw (q ∙ sym c) (not-good-means load-card-bytes .1 bad)))
+      go (load-card {n} right bad c) q = inr (inr (subst CardsOwn (card-says load-card-bytes n .1 c ∙ sym q) (not-good-means load-card-bytes .1 bad)))
 
   pub load-kept : n ≢ 0 → load-after ≡ load-before
   unfolding load

@@ -19,6 +19,7 @@ use Rattle.layout.proofs.RightLists.{lists-mean}
 use Rattle.layout.proofs.Undamaged.{undamaged-means}
 use Rattle.card.specs.CardNumber.{cardNumber}
 use Rattle.card.proofs.Good.{good-means}
+use Rattle.card.proofs.Says.{card-says}
 use Rattle.transfer.specs.Load.{loadNumber}
 use Rattle.transfer.specs.Write.{cardOf, writeNumber}
 use Rattle.transfer.specs.Says.{LoadSays, load-done, load-lists, load-card, WriteSays, write-done, write-lists, write-damage, write-short}
@@ -32,7 +33,7 @@ module _ (s : Sheet) (b : List ℕ) where
   load-back : {n : ℕ} → LoadSays s b n → loadNumber s b ≡ n
   load-back (load-done right good) = load-by false (lists-mean s .1 right) ∙ good-means b .1 good
   load-back (load-lists w) = load-by true (is-true _ (λ e. w (lists-mean s .0 e)))
-  load-back (load-card right bad e) = load-by false (lists-mean s .1 right) ∙ e
+  load-back (load-card {n} right bad c) = load-by false (lists-mean s .1 right) ∙ card-says b n .1 c
 
   load-case : LoadSays s b (loadNumber s b)
   load-case = go (wrongLists s) refl
@@ -45,7 +46,7 @@ module _ (s : Sheet) (b : List ℕ) where
       go false w =
           elim (ℕ-discrete (cardNumber b) 0) [
             | yes z ↦ comes (load-done (lists-mean s .0 w) (good-means b .0 z))
-            | no z ↦ comes (load-card (lists-mean s .0 w) (λ good. z (good-means b .1 good)) refl)
+            | no z ↦ comes (load-card (lists-mean s .0 w) (λ good. z (good-means b .1 good)) (card-says b (cardNumber b) .0 refl))
           ]
 
   pub load-says : (n : ℕ) → (loadNumber s b ≡ n) ↔ LoadSays s b n
