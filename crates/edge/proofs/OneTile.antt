@@ -4,15 +4,13 @@
 --   one-tile         the edge has that tile and no other;  one-piece  and one piece, also where its ends are equal
 use mathlib.Core.Path.{_≡_, refl, sym, _∙_, ap}
 use mathlib.Core.Logic.{⊎-elim}
-use mathlib.Core.Bool.{Bool, true, false, not, _&&_}
-use Prim.Native.Nat.{ℕ, zero, suc, _+_, _-_, _*_, _≤_, _<_, max}
+use mathlib.Core.Bool.{true, false, _&&_}
+use Prim.Native.Nat.{ℕ, zero, suc, _+_, _-_, _≤_, _<_, max}
 use native.Mathlib.Omega.{arith}
 use borrow.Author.Tests.{lt-ltb, le-ltb, le-leb, lt-leb}
-use lib.Dec.{ltb, leb, eqb}
-use Rattle.plane.specs.Choice.{pick}
+use lib.Dec.{eqb}
 use Rattle.plane.specs.Folds.{anyTo, allTo, sumTo}
 use Rattle.plane.specs.Placed.{Upright}
-use Rattle.plane.specs.TileSet.{one-if}
 use Rattle.plane.specs.declared.Box.{Box}
 use Rattle.plane.specs.declared.Edge.{Edge}
 use Rattle.plane.proofs.Logic.{and-means, eq-means}

@@ -7,7 +7,7 @@
 use mathlib.Core.Path.{_≡_, refl, sym, ap, _∙_}
 use mathlib.Core.Logic.{_≢_}
 use mathlib.Core.Bool.{Bool, true, false}
-use mathlib.Core.List.{List, []}
+use mathlib.Core.List.{List}
 use Prim.Native.Nat.{ℕ, _+_, _*_, _≤_, _<_}
 use native.Mathlib.Omega.{arith}
 use native.Mathlib.Decide.{ℕ-discrete}
@@ -17,7 +17,7 @@ use lib.Seq.{getD-set-same, getD-set-other}
 use Rattle.plane.specs.Choice.{pick}
 use Rattle.plane.specs.declared.Box.{Box}
 use Rattle.plane.proofs.Logic.{clash}
-use Rattle.outline.specs.Region.{Region, Parcel, nothing, outline, regionOf}
+use Rattle.outline.specs.Region.{Region, nothing, outline, regionOf}
 use Rattle.relation.specs.Relation.{regionBox}
 use Rattle.layout.specs.Sheet.{slots}
 use Rattle.layout.specs.Standing.{occupied, endList, coordinateList}

@@ -6,7 +6,6 @@
 ghost use mathlib.Core.Path.{_≡_};
 ghost use Prim.Native.Nat.{_<_};
 ghost use lib.ListN.{length};
-ghost use Rattle.plane.specs.Placed.{BoxInPlaces};
 ghost use Rattle.layout.specs.Sheet.{slots};
 ghost use Rattle.layout.specs.Steps.{Whole};
 ghost use Rattle.layout.specs.BoxList.{boxesLength, boxAt, withBox, boxFound, Boxed};
@@ -19,15 +18,15 @@ use relation::region_box;
 
 pub const BOXES: usize = 128;
 
-pub fn box_at(boxes: &[u32], slot: usize) -> Box
+pub fn box_at(boxes: &[u64], slot: usize) -> Box
     requires { ⌜ (length (now boxes) ≡ boxesLength) × (slot < slots) ⌝ }
     ensures { λ b. ⌜ b ≡ boxAt (now (boxes .entry)) slot ⌝ }
 {
     let at = 4 * slot;
-    let west = boxes[at] as u64;
-    let south = boxes[at + 1] as u64;
-    let east = boxes[at + 2] as u64;
-    let north = boxes[at + 3] as u64;
+    let west = boxes[at];
+    let south = boxes[at + 1];
+    let east = boxes[at + 2];
+    let north = boxes[at + 3];
     Box {
         west,
         south,
@@ -36,19 +35,19 @@ pub fn box_at(boxes: &[u32], slot: usize) -> Box
     }
 }
 
-fn write_box(boxes: &mut [u32], slot: usize, b: Box)
-    requires { ⌜ (length (now boxes) ≡ boxesLength) × (slot < slots) × BoxInPlaces b ⌝ }
+fn write_box(boxes: &mut [u64], slot: usize, b: Box)
+    requires { ⌜ (length (now boxes) ≡ boxesLength) × (slot < slots) ⌝ }
     ensures { λ _. ⌜ now (boxes .exit) ≡ withBox (now (boxes .entry)) slot b ⌝ }
 {
     let at = 4 * slot;
-    boxes[at] = b.west as u32;
-    boxes[at + 1] = b.south as u32;
-    boxes[at + 2] = b.east as u32;
-    boxes[at + 3] = b.north as u32;
+    boxes[at] = b.west;
+    boxes[at + 1] = b.south;
+    boxes[at + 2] = b.east;
+    boxes[at + 3] = b.north;
 }
 
 // An empty slot keeps the numbers that it has: nobody reads them.
-pub fn find_box(xs: &[i32], records: &[u16], boxes: &mut [u32], slot: usize)
+pub fn find_box(xs: &[i32], records: &[u16], boxes: &mut [u64], slot: usize)
     requires { ⌜ Whole (now xs) (now records) × (length (now boxes) ≡ boxesLength) × (slot < slots) ⌝ }
     ensures { λ _. ⌜ now (boxes .exit) ≡ boxFound (now (xs .entry)) (now (records .entry)) slot (now (boxes .entry)) ⌝ }
 {
@@ -60,7 +59,7 @@ pub fn find_box(xs: &[i32], records: &[u16], boxes: &mut [u32], slot: usize)
     write_box(boxes, slot, region_box(outline, ends));
 }
 
-pub fn find_boxes(xs: &[i32], records: &[u16], boxes: &mut [u32])
+pub fn find_boxes(xs: &[i32], records: &[u16], boxes: &mut [u64])
     requires { ⌜ Whole (now xs) (now records) × (length (now boxes) ≡ boxesLength) ⌝ }
     ensures { λ _. ⌜ Boxed (now (boxes .exit)) (now (xs .entry)) (now (records .entry)) ⌝ }
 {

@@ -80,7 +80,7 @@ fn write_record(records: &mut [u16], slot: usize, ends: &[u16])
 }
 
 // The cell that belongs to two slots.
-fn cell_for(xs: &[i32], records: &[u16], boxes: &[u32], primary: usize, reference: usize) -> u16
+fn cell_for(xs: &[i32], records: &[u16], boxes: &[u64], primary: usize, reference: usize) -> u16
     requires { ⌜ Whole (now xs) (now records) × Boxed (now boxes) (now xs) (now records) × (primary < slots) × (reference < slots) ⌝ }
     ensures { λ r. ⌜ r ≡ cellFor (now (xs .entry)) (now (records .entry)) primary reference ⌝ }
 {
@@ -105,7 +105,7 @@ fn cell_for(xs: &[i32], records: &[u16], boxes: &[u32], primary: usize, referenc
 fn relate_one(
     xs: &[i32],
     records: &[u16],
-    boxes: &[u32],
+    boxes: &[u64],
     relations: &mut [u16],
     slot: usize,
     k: usize,
@@ -122,7 +122,7 @@ fn relate_one(
 }
 
 // The row and the column of a slot.
-fn relate(xs: &[i32], records: &[u16], boxes: &[u32], relations: &mut [u16], slot: usize)
+fn relate(xs: &[i32], records: &[u16], boxes: &[u64], relations: &mut [u16], slot: usize)
     requires { ⌜ Whole (now xs) (now records) × Boxed (now boxes) (now xs) (now records) × (length (now relations) ≡ relationsLength) × (slot < slots) ⌝ }
     ensures { λ _. ⌜ now (relations .exit) ≡ turns (crossed (cellFor (now (xs .entry)) (now (records .entry))) slot) slots (now (relations .entry)) ⌝ }
 {
@@ -139,7 +139,7 @@ pub fn write_among(
     xs: &mut [i32],
     records: &mut [u16],
     relations: &mut [u16],
-    boxes: &mut [u32],
+    boxes: &mut [u64],
     slot: usize,
     outline: &[i32],
     ends: &[u16],
@@ -166,7 +166,7 @@ pub fn write_parcel(
     requires { ⌜ Ready (sheetOf (now xs) (now records) (now relations)) slot (parcelOf (regionOf (now outline) (now ends))) ⌝ }
     ensures { λ _. ⌜ sheetOf (now (xs .exit)) (now (records .exit)) (now (relations .exit)) ≡ withParcel (sheetOf (now (xs .entry)) (now (records .entry)) (now (relations .entry))) slot (parcelOf (regionOf (now (outline .entry)) (now (ends .entry)))) ⌝ }
 {
-    let mut boxes = [0u32; BOXES];
+    let mut boxes = [0u64; BOXES];
     find_boxes(xs, records, &mut boxes);
     write_among(xs, records, relations, &mut boxes, slot, outline, ends);
 }

@@ -1,25 +1,27 @@
 -- A region whose box one tile holds, where its first edge runs at all: it has that tile and no other, and each of its edges is one piece.
+--   told-none, told-flat, told-tile    the three answers of the search for that tile
 --   held-answer    so its relation and its pieces are known, as code answers them
-use mathlib.Core.Path.{_≡_, refl, sym, _∙_, ap}
+use mathlib.Core.Path.{_≡_, refl, sym, _∙_, ap, ap₂}
 use mathlib.Core.Logic.{_≢_}
-use mathlib.Core.Bool.{Bool, true, false, _&&_}
+use mathlib.Core.Bool.{Bool, true, false}
 use Prim.Native.Nat.{ℕ, zero, suc, _+_, _-_, _*_, _%_, _^_, _≤_, _<_}
 use native.Mathlib.Omega.{arith}
 use native.Mathlib.Nat.{zero-add}
-use lib.Dec.{ltb, eqb}
+use native.Mathlib.Decide.{decLt}
+use lib.Dec.{ltb, leb, eqb}
 use lib.ListN.{length}
-use borrow.Author.Tests.{ltb-true, eqb-true, eqb-false, eq-eqb}
+use borrow.Author.Tests.{lt-ltb, le-ltb, le-leb, lt-leb, eqb-true, eq-eqb}
 use Rattle.plane.specs.Choice.{pick}
 use Rattle.plane.specs.Place.{placeOf}
 use Rattle.plane.specs.Points.{vertex}
 use Rattle.plane.specs.Placed.{Upright}
 use Rattle.plane.specs.Folds.{allTo, sumTo}
-use Rattle.plane.specs.TileSet.{setOf}
+use Rattle.plane.specs.TileSet.{one-if, setOf}
 use Rattle.plane.specs.declared.Box.{Box}
 use Rattle.plane.specs.declared.Edge.{Edge}
 use Rattle.plane.proofs.Logic.{clash, and-means, both, eq-means}
 use Rattle.plane.proofs.Folds.{all-at, any-means, least-le, greatest-ge}
-use Rattle.plane.proofs.TileSet.{bit-le, set-same}
+use Rattle.plane.proofs.TileSet.{one-le, bit-le, set-same}
 use Rattle.edge.specs.Walk.{tileOf}
 use Rattle.edge.proofs.Weights.{InCol, EqualEnds}
 use Rattle.edge.proofs.OneTile.{tile-lt}
@@ -34,35 +36,38 @@ use Rattle.outline.specs.Rules.{Keeps}
 use Rattle.outline.proofs.Ends.{size-least, ring-in-last}
 use Rattle.outline.proofs.Keeps.{keeps-fewer, Sized, sized}
 use Rattle.relation.specs.Relation.{regionBox, regionHas, relationOf, regionPieces, regionSeen}
-use Rattle.relation.specs.OneTile.{rangeAround, tileAround}
+use Rattle.relation.specs.OneTile.{linesBefore, linesUpTo, tileAround, tileHolding}
 
 -- ---- one axis
-module _ (lo hi least greatest : ℕ) where
-  abbrev around : ℕ
-  around = rangeAround lo hi least greatest
+before-le : (lo hi x : ℕ) → linesBefore lo hi x ≤ 2
+unfolding linesBefore
+before-le lo hi x = omega (arith, one-le (ltb lo x), one-le (ltb hi x))
 
-  around-le : around ≤ 3
-  unfolding rangeAround
-  around-le = go (ltb greatest lo) (ltb hi least) (ltb lo least && ltb greatest hi)
-    where
-      go : (p q r : Bool) → pick {A = ℕ} p 0 (pick {A = ℕ} q 2 (pick {A = ℕ} r 1 3)) ≤ 3
-      go true q r = omega arith
-      go false true r = omega arith
-      go false false true = omega arith
-      go false false false = omega arith
+up-to-le : (lo hi x : ℕ) → linesUpTo lo hi x ≤ 2
+unfolding linesUpTo
+up-to-le lo hi x = omega (arith, one-le (leb lo x), one-le (leb hi x))
 
-  holds : around < 3 → (x : ℕ) → least ≤ x → x ≤ greatest → InCol around lo hi 1 x
-  unfolding rangeAround
-  holds l x p q = go (ltb greatest lo) refl (ltb hi least) refl (ltb lo least && ltb greatest hi) refl l
-    where
-      go : (s : Bool) → ltb greatest lo ≡ s → (t : Bool) → ltb hi least ≡ t → (r : Bool) → ltb lo least && ltb greatest hi ≡ r
-          → pick {A = ℕ} s 0 (pick {A = ℕ} t 2 (pick {A = ℕ} r 1 3)) < 3 → InCol (pick s 0 (pick t 2 (pick r 1 3))) lo hi 1 x
-      go true e t f r g m = omega (arith, ltb-true greatest lo e)
-      go false e true f r g m = omega (arith, ltb-true hi least f)
-      go false e false f true g m =
-          let a = and-means (ltb lo least) (ltb greatest hi) .0 g in
-          (omega (arith, ltb-true lo least (a .0)), omega (arith, ltb-true greatest hi (a .1)))
-      go false e false f false g m = absurd (omega arith)
+-- every line comes before all from `least` to `greatest`, or after
+holds : (lo hi least greatest : ℕ) → lo ≤ hi → linesBefore lo hi least ≡ linesUpTo lo hi greatest → (x : ℕ) → least ≤ x → x ≤ greatest → InCol (linesBefore lo hi least) lo hi 1 x
+unfolding linesBefore linesUpTo
+holds lo hi least greatest le same x p q = go (decLt lo least) (decLt hi least) (decLt greatest lo) (decLt greatest hi)
+  where
+    told : (s t u v : Bool) → ltb lo least ≡ s → ltb hi least ≡ t → leb lo greatest ≡ u → leb hi greatest ≡ v
+        → (one-if s + one-if t ≡ one-if u + one-if v → InCol (one-if s + one-if t) lo hi 1 x) → InCol (one-if (ltb lo least) + one-if (ltb hi least)) lo hi 1 x
+    told s t u v d e f g h = rw (d, e) (h (ap₂ (λ (m n : Bool). one-if m + one-if n) (sym d) (sym e) ∙ same ∙ ap₂ (λ (m n : Bool). one-if m + one-if n) f g))
+
+    go : Dec (lo < least) → Dec (hi < least) → Dec (greatest < lo) → Dec (greatest < hi) → InCol (one-if (ltb lo least) + one-if (ltb hi least)) lo hi 1 x
+    go (yes a) (yes b) (yes c) d = absurd (omega arith)
+    go (yes a) (yes b) (no c) (yes d) = absurd (omega arith)
+    go (yes a) (yes b) (no c) (no d) = told true true true true (lt-ltb lo least a) (lt-ltb hi least b) (le-leb lo greatest (omega arith)) (le-leb hi greatest (omega arith)) (λ e. omega arith)
+    go (yes a) (no b) (yes c) d = absurd (omega arith)
+    go (yes a) (no b) (no c) (yes d) = told true false true false (lt-ltb lo least a) (le-ltb hi least (omega arith)) (le-leb lo greatest (omega arith)) (lt-leb hi greatest d) (λ e. (omega arith, omega arith))
+    go (yes a) (no b) (no c) (no d) = told true false true true (lt-ltb lo least a) (le-ltb hi least (omega arith)) (le-leb lo greatest (omega arith)) (le-leb hi greatest (omega arith)) (λ e. absurd (omega (arith, e)))
+    go (no a) (yes b) c d = absurd (omega arith)
+    go (no a) (no b) (yes c) (yes d) = told false false false false (le-ltb lo least (omega arith)) (le-ltb hi least (omega arith)) (lt-leb lo greatest c) (lt-leb hi greatest d) (λ e. omega arith)
+    go (no a) (no b) (yes c) (no d) = absurd (omega arith)
+    go (no a) (no b) (no c) (yes d) = told false false true false (le-ltb lo least (omega arith)) (le-ltb hi least (omega arith)) (le-leb lo greatest (omega arith)) (lt-leb hi greatest d) (λ e. absurd (omega (arith, e)))
+    go (no a) (no b) (no c) (no d) = told false false true true (le-ltb lo least (omega arith)) (le-ltb hi least (omega arith)) (le-leb lo greatest (omega arith)) (le-leb hi greatest (omega arith)) (λ e. absurd (omega (arith, e)))
 
 -- ---- the set of one tile
 lone-sets : allTo (λ t. eqb (2 ^ t) (setOf (λ u. eqb u t) 9)) 9 ≡ true
@@ -81,21 +86,33 @@ module _ {R : Region} (kept : Keeps 4 R) (b : Box) (up : Upright b) where
   own = regionBox R
 
   abbrev column : ℕ
-  column = rangeAround (b .west) (b .east) (own .west) (own .east)
+  column = linesBefore (b .west) (b .east) (own .west)
 
   abbrev row : ℕ
-  row = rangeAround (b .south) (b .north) (own .south) (own .north)
+  row = linesBefore (b .south) (b .north) (own .south)
 
-  module _ (cl : column < 3) (rl : row < 3) where
-    abbrev tile : ℕ
-    tile = tileOf column row
+  abbrev toColumn : ℕ
+  toColumn = linesUpTo (b .west) (b .east) (own .east)
 
+  abbrev toRow : ℕ
+  toRow = linesUpTo (b .south) (b .north) (own .north)
+
+  cl : column < 3
+  cl = omega (arith, before-le (b .west) (b .east) (own .west))
+
+  rl : row < 3
+  rl = omega (arith, before-le (b .south) (b .north) (own .south))
+
+  abbrev tile : ℕ
+  tile = tileOf column row
+
+  module _ (one-column : column ≡ toColumn) (one-row : row ≡ toRow) where
     in-column : (i : ℕ) → i < lastEnd (R .ends) → InCol column (b .west) (b .east) 1 (placeOf ((vertex (R .coordinates) i) .x))
     unfolding regionBox stretchBox
     in-column i l =
         let f : ℕ → ℕ = λ j. placeOf ((vertex (R .coordinates) (0 + j)) .x) in
         let z = ap (λ (j : ℕ). placeOf ((vertex (R .coordinates) j) .x)) (zero-add i) in
-        holds (b .west) (b .east) (own .west) (own .east) cl _
+        holds (b .west) (b .east) (own .west) (own .east) (up .x) one-column _
         (rw z at (least-le f (lastEnd (R .ends) - 1) i (omega arith))) (rw z at (greatest-ge f (lastEnd (R .ends) - 1) i (omega arith)))
 
     in-row : (i : ℕ) → i < lastEnd (R .ends) → InCol row (b .south) (b .north) 1 (placeOf ((vertex (R .coordinates) i) .y))
@@ -103,7 +120,7 @@ module _ {R : Region} (kept : Keeps 4 R) (b : Box) (up : Upright b) where
     in-row i l =
         let f : ℕ → ℕ = λ j. placeOf ((vertex (R .coordinates) (0 + j)) .y) in
         let z = ap (λ (j : ℕ). placeOf ((vertex (R .coordinates) j) .y)) (zero-add i) in
-        holds (b .south) (b .north) (own .south) (own .north) rl _
+        holds (b .south) (b .north) (own .south) (own .north) (up .y) one-row _
         (rw z at (least-le f (lastEnd (R .ends) - 1) i (omega arith))) (rw z at (greatest-ge f (lastEnd (R .ends) - 1) i (omega arith)))
 
     -- ---- its rings
@@ -156,25 +173,21 @@ module _ {R : Region} (kept : Keeps 4 R) (b : Box) (up : Upright b) where
 
   -- ---- as the code asks
   module _ (none : tileAround b own ≢ 9) where
-    held : (column < 3) × (row < 3) × (tileAround b own ≡ tileOf column row)
+    held : (column ≡ toColumn) × (row ≡ toRow) × (tileAround b own ≡ tile)
     unfolding tileAround
-    held = go (eqb column 3) refl (eqb row 3) refl none
+    held = go (eqb (3 * column + row) (3 * toColumn + toRow)) refl none
       where
-        go : (p : Bool) → eqb column 3 ≡ p → (q : Bool) → eqb row 3 ≡ q → pick p 9 (pick q 9 (tileOf column row)) ≢ 9
-            → (column < 3) × (row < 3) × (pick p 9 (pick q 9 (tileOf column row)) ≡ tileOf column row)
-        go true e q f n = absurd (n refl)
-        go false e true f n = absurd (n refl)
-        go false e false f n = (
-          below column (around-le (b .west) (b .east) (own .west) (own .east)) e,
-          below row (around-le (b .south) (b .north) (own .south) (own .north)) f,
-          refl,
-        )
-          where
-            below : (c : ℕ) → c ≤ 3 → eqb c 3 ≡ false → c < 3
-            below c h e = omega (arith, h, eqb-false c 3 e)
+        apart : (c r d s : ℕ) → c ≤ 2 → r ≤ 2 → d ≤ 2 → s ≤ 2 → 3 * c + r ≡ 3 * d + s → (c ≡ d) × (r ≡ s)
+        apart c r d s hc hr hd hs e = (omega arith, omega arith)
+
+        go : (t : Bool) → eqb (3 * column + row) (3 * toColumn + toRow) ≡ t → pick t tile 9 ≢ 9 → (column ≡ toColumn) × (row ≡ toRow) × (pick t tile 9 ≡ tile)
+        go true e n =
+            let p = apart column row toColumn toRow (before-le _ _ _) (before-le _ _ _) (up-to-le _ _ _) (up-to-le _ _ _) (eqb-true _ _ e) in
+            (p .0, p .1, refl)
+        go false e n = absurd (n refl)
 
     held-tile : tileAround b own < 9
-    held-tile = let h = held in omega (arith, h .2, tile-lt column row (h .0) (h .1))
+    held-tile = omega (arith, held .2, tile-lt column row cl rl)
 
     held-seen : (EqualEnds (ringEdge (R .coordinates) 0 (sizeOf (R .ends) 0) 0) → ⊥)
         → _≡_ {A = Seen} (record { set = 2 ^ tileAround b own; pieces = lastEnd (R .ends) }) (regionSeen b R)
@@ -193,11 +206,40 @@ apart : (g : Edge) → equalEnds g ≡ false → EqualEnds g → ⊥
 unfolding equalEnds
 apart g e q = clash _ (and-means (eqb (g .ax) (g .bx)) (eqb (g .ay) (g .by)) .1 (eq-eqb _ _ (q .0), eq-eqb _ _ (q .1))) e
 
-pub held-answer : {R : Region} → Keeps 4 R → (b : Box) → Upright b → (own : Box) → own ≡ regionBox R → (tile : ℕ) → tile ≡ tileAround b own → tile ≢ 9
-    → (last : ℕ) → last ≡ lastEnd (R .ends) → equalEnds (ringEdge (R .coordinates) 0 (sizeOf (R .ends) 0) 0) ≡ false
-    → _≡_ {A = Seen} (record { set = 1 * 2 ^ tile % 65536; pieces = last }) (regionSeen b R)
-held-answer {R} kept b up own e tile t some last l runs =
-    let is : tile ≡ tileAround b (regionBox R) = t ∙ ap (tileAround b) e in
+-- ---- as the code tells it
+module _ (b own : Box) (R : Region) where
+  abbrev flat : Bool
+  flat = equalEnds (ringEdge (R .coordinates) 0 (sizeOf (R .ends) 0) 0)
+
+  pub told-none : tileAround b own ≡ 9 → 9 ≡ tileHolding b own R
+  unfolding tileHolding
+  told-none e = go flat
+    where
+      go : (t : Bool) → 9 ≡ pick t 9 (tileAround b own)
+      go true = refl
+      go false = sym e
+
+  pub told-flat : flat ≡ true → 9 ≡ tileHolding b own R
+  unfolding tileHolding
+  told-flat e = simp e
+
+  pub told-tile : flat ≡ false → tileAround b own ≡ tileHolding b own R
+  unfolding tileHolding
+  told-tile e = simp e
+
+  told : tileHolding b own R ≢ 9 → (flat ≡ false) × (tileHolding b own R ≡ tileAround b own)
+  unfolding tileHolding
+  told n = go flat refl n
+    where
+      go : (t : Bool) → flat ≡ t → pick t 9 (tileAround b own) ≢ 9 → (t ≡ false) × (pick t 9 (tileAround b own) ≡ tileAround b own)
+      go true e m = absurd (m refl)
+      go false e m = (refl, refl)
+
+pub held-answer : {R : Region} → Keeps 4 R → (b : Box) → Upright b → (own : Box) → own ≡ regionBox R → (tile : ℕ) → tile ≡ tileHolding b own R → tile ≢ 9
+    → (last : ℕ) → last ≡ lastEnd (R .ends) → _≡_ {A = Seen} (record { set = 1 * 2 ^ tile % 65536; pieces = last }) (regionSeen b R)
+held-answer {R} kept b up own e tile t some last l =
+    let h = told b own R (λ q. some (t ∙ q)) in
+    let is : tile ≡ tileAround b (regionBox R) = t ∙ h .1 ∙ ap (tileAround b) e in
     let none : tileAround b (regionBox R) ≢ 9 = λ q. some (is ∙ q) in
     (λ i. record { set = (ap (λ (u : ℕ). 1 * 2 ^ u % 65536) is ∙ one-bit (tileAround b (regionBox R)) (held-tile kept b up none)) i; pieces = l i })
-    ∙ held-seen kept b up none (apart (ringEdge (R .coordinates) 0 (sizeOf (R .ends) 0) 0) runs)
+    ∙ held-seen kept b up none (apart (ringEdge (R .coordinates) 0 (sizeOf (R .ends) 0) 0) (h .0))

@@ -50,7 +50,7 @@ fn lay_parcel(
     xs: &mut [i32],
     records: &mut [u16],
     relations: &mut [u16],
-    boxes: &mut [u32],
+    boxes: &mut [u64],
     card: &[u8],
     k: usize,
 )
@@ -79,7 +79,7 @@ fn lay_parcels(
     xs: &mut [i32],
     records: &mut [u16],
     relations: &mut [u16],
-    boxes: &mut [u32],
+    boxes: &mut [u64],
     card: &[u8],
 )
     requires { ⌜ (sheetOf (now xs) (now records) (now relations) ≡ blank) × Boxed (now boxes) (now xs) (now records) × (cardNumber (now card) ≡ 0) ⌝ }
@@ -99,7 +99,7 @@ fn lay_out(xs: &mut [i32], records: &mut [u16], relations: &mut [u16], card: &[u
     ensures { λ _. ⌜ sheetOf (now (xs .exit)) (now (records .exit)) (now (relations .exit)) ≡ layout (parcelIn (now (card .entry))) ⌝ }
 {
     clear(xs, records, relations);
-    let mut boxes = [0u32; BOXES];
+    let mut boxes = [0u64; BOXES];
     lay_parcels(xs, records, relations, &mut boxes, card);
 }
 

@@ -1,11 +1,8 @@
 use mathlib.Core.Path.{_≡_, sym, ap, ap₂, _∙_, subst}
 use mathlib.Core.Bool.{false}
-use Rattle.plane.specs.Placed.{BoxInPlaces}
-use Rattle.plane.specs.declared.Box.{Box}
 use Rattle.outline.specs.Region.{Region, regionOf}
 use Rattle.outline.specs.Rules.{Keeps}
 use Rattle.relation.specs.Relation.{regionBox}
-use Rattle.relation.proofs.Regions.{region-box-in-places}
 use Rattle.layout.specs.Slots.{emptyIn, regionIn}
 use Rattle.layout.specs.BoxList.{withBox}
 use Rattle.layout.proofs.SlotCells.{there-keeps}
@@ -48,9 +45,8 @@ region-box-requires c κs = let r = c .before in subst (Keeps 4) (sym (read r)) 
 
 write-box-requires : tie.Need-write-box-requires
 write-box-requires c κs =
-    let r = c .before .before in
-    let p = begin r .pre in
-    (p .1, p .2, subst BoxInPlaces (sym (c .region-box .ensures ∙ ap regionBox (read r))) (region-box-in-places (keeps r)))
+    let p = begin (c .before .before) .pre in
+    (p .1, p .2)
 
 same-length : tie.Need-same-length
 same-length c = search needs

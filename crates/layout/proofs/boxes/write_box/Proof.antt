@@ -9,17 +9,11 @@ use Rattle.layout.proofs.boxes.write_box.Tie as tie
 mul-at : tie.Need-mul-at
 mul-at c = search needs
 
-cast-boxes : tie.Need-cast-boxes
-cast-boxes c = record { fits = omega (arith, c .before .pre .2 .west) }
-
 mul-boxes : tie.Need-mul-boxes
 mul-boxes c = search needs
 
 slice-write-boxes : tie.Need-slice-write-boxes
 slice-write-boxes c = search needs
-
-cast-boxes-2 : tie.Need-cast-boxes-2
-cast-boxes-2 c = record { fits = omega (arith, c .before .before .pre .2 .south) }
 
 add-boxes : tie.Need-add-boxes
 add-boxes c = search needs
@@ -30,9 +24,6 @@ mul-boxes-2 c = search needs
 slice-write-boxes-2 : tie.Need-slice-write-boxes-2
 slice-write-boxes-2 c = simp length-set (omega arith)
 
-cast-boxes-3 : tie.Need-cast-boxes-3
-cast-boxes-3 c = record { fits = omega (arith, c .before .before .before .pre .2 .east) }
-
 add-boxes-2 : tie.Need-add-boxes-2
 add-boxes-2 c = search needs
 
@@ -41,9 +32,6 @@ mul-boxes-3 c = search needs
 
 slice-write-boxes-3 : tie.Need-slice-write-boxes-3
 slice-write-boxes-3 c = simp length-set (omega arith)
-
-cast-boxes-4 : tie.Need-cast-boxes-4
-cast-boxes-4 c = record { fits = omega (arith, c .before .before .before .before .pre .2 .north) }
 
 add-boxes-3 : tie.Need-add-boxes-3
 add-boxes-3 c = search needs
@@ -66,18 +54,14 @@ write-box-spec =
     tie.close
     (tie.spec
     mul-at
-    cast-boxes
     mul-boxes
     slice-write-boxes
-    cast-boxes-2
     add-boxes
     mul-boxes-2
     slice-write-boxes-2
-    cast-boxes-3
     add-boxes-2
     mul-boxes-3
     slice-write-boxes-3
-    cast-boxes-4
     add-boxes-3
     mul-boxes-4
     slice-write-boxes-4
