@@ -12,7 +12,7 @@ use Rattle.plane.specs.declared.Box.{Box}
 use Rattle.plane.specs.declared.Edge.{Edge}
 use Rattle.edge.specs.Drawn.{has}
 use Rattle.edge.proofs.MovedEdge.{moved, doubledBox, movedEdge}
-use Rattle.edge.proofs.Weights.{InCol, Meets, EqualEnds}
+use Rattle.edge.proofs.Weights.{InCol, EqualEnds}
 use Rattle.edge.proofs.WalkPlaces.{has-meets}
 use Rattle.classes.proofs.Classes.{Strictly}
 

@@ -4,7 +4,7 @@
 --   class-few               a class is one of 25
 --   classing-in-places      the lines of the classing box are places
 --   seen-all                after all edges
-use mathlib.Core.Path.{_≡_, refl, sym, _∙_, ap, ap₂, subst}
+use mathlib.Core.Path.{_≡_, refl, sym, _∙_, ap, ap₂}
 use mathlib.Core.Bool.{Bool, true, false}
 use mathlib.Core.List.{List}
 use Prim.Native.Nat.{ℕ, zero, suc, _+_, _-_, _*_, _≤_, _<_, max}
@@ -19,7 +19,6 @@ use Rattle.plane.specs.Folds.{anyTo, sumTo}
 use Rattle.plane.specs.Place.{placeOf}
 use Rattle.plane.specs.Placed.{BoxInPlaces, Upright}
 use Rattle.plane.specs.Points.{Point}
-use Rattle.plane.specs.TileSet.{setOf}
 use Rattle.plane.specs.declared.Box.{Box}
 use Rattle.plane.specs.declared.Edge.{Edge}
 use Rattle.plane.proofs.Logic.{both, never, is-false, and-means, eq-means}

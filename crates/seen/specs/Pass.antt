@@ -1,5 +1,6 @@
 -- How the pass over a ring's edges goes. No rule of docs/SCOPE.md stands here: these definitions only carry the proof that it answers
 -- `edgesSeen` (proofs/Shown, `seen-all`).
+--   block                   how many vertices are classed at a time
 --   edgeTo n k              the edge that ends in vertex k of a ring of n: edge k - 1, and the last one where k is 0
 --   nowhere                 a box without inside
 --   classingBox b xs from n    the box against which the vertices are classed: `nowhere` where the first edge's ends are equal, so that
@@ -24,6 +25,9 @@ use Rattle.classes.specs.Classes.{vertexClass, listBy}
 use Rattle.ring.specs.Edges.{corner, ringEdge}
 use Rattle.ring.specs.Repeated.{equalEnds}
 use Rattle.seen.specs.declared.Seen.{Seen}
+
+abbrev pub block : ℕ
+block = 64
 
 abbrev pub edgeTo : (n k : ℕ) → ℕ
 edgeTo n k = pick (eqb k 0) (n - 1) (k - 1)

@@ -9,7 +9,7 @@ ghost use Rattle.classes.specs.Classes.{listBy};
 ghost use Rattle.ring.specs.Edges.{ringEdge};
 ghost use Rattle.ring.specs.Stretch.{Stretch};
 ghost use Rattle.ring.specs.RingBox.{stretchBox, covers};
-ghost use Rattle.seen.specs.Pass.{edgeTo, classingBox, cornerClass, Classes, seenTo};
+ghost use Rattle.seen.specs.Pass.{block, edgeTo, classingBox, cornerClass, Classes, seenTo};
 ghost use Rattle.seen.specs.RingSeen.{edgesSeen, ringSeen};
 use classes::vertex_class;
 use classes::walk_told;
@@ -46,8 +46,9 @@ fn edge_to(n: usize, k: usize) -> usize
     k - 1
 }
 
-// The box against which the vertices are classed. Classes cannot tell equal ends. They do no harm, for an edge with other ends has the
-// tile of that vertex too; but a ring of one point has no such edge. So where the first edge has equal ends, every edge is walked.
+// The box against which the vertices are classed. By its classes an edge with equal ends shows the tile of its vertex, which is right
+// for the ring: some edge leaves that vertex, and has the tile. But none does in a ring of one point. So where the first edge has equal
+// ends, the vertices are classed against a box without inside, and every edge is walked.
 fn classing_box(b: Box, xs: &[i32], from: usize, n: usize) -> Box
     requires { ⌜ Stretch (now xs) from n × (0 < n) ⌝ }
     ensures { λ r. ⌜ r ≡ classingBox b (now (xs .entry)) from n ⌝ }
@@ -129,6 +130,7 @@ fn classed_seen(
     }
 }
 
+// The same for one block, whose classes are laid out here; c is the classing box.
 fn block_seen(
     b: Box,
     c: Box,
@@ -139,7 +141,7 @@ fn block_seen(
     m: usize,
     shown: Seen,
 ) -> Seen
-    requires { ⌜ BoxInPlaces b × Upright b × Stretch (now xs) from n × (at < n) × (at + m ≤ n) × (m ≤ 64) ⌝ }
+    requires { ⌜ BoxInPlaces b × Upright b × Stretch (now xs) from n × (at < n) × (at + m ≤ n) × (m ≤ block) ⌝ }
     requires { ⌜ (c ≡ classingBox b (now xs) from n) × (shown ≡ seenTo b (now xs) from n at) ⌝ }
     ensures { λ r. ⌜ r ≡ seenTo b (now (xs .entry)) from n (at + m) ⌝ }
 {

@@ -1,6 +1,3 @@
-use mathlib.Core.Path.{_≡_, sym, _∙_, ap}
-use mathlib.Core.Bool.{true, false}
-use Rattle.ring.specs.Repeated.{equalEnds}
 use Rattle.seen.specs.Pass.{classingBox}
 use borrow.Author.Needs.{needs}
 use Rattle.seen.proofs.classing_box.Statement.{statement}

@@ -1,6 +1,6 @@
 -- The loop's invariant: what the edges that end in the vertices before `at` have shown.
-use mathlib.Core.Path.{_≡_, sym, _∙_, ap}
-use Prim.Native.Nat.{ℕ, _-_, _≤_}
+use mathlib.Core.Path.{_≡_, _∙_, ap}
+use Prim.Native.Nat.{_-_, _≤_}
 use native.Mathlib.Omega.{arith}
 use Rattle.seen.specs.Pass.{seenTo}
 use Rattle.seen.proofs.Shown.{seen-none, seen-all}
