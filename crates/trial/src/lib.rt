@@ -1,10 +1,15 @@
 // The library's work under names that C can call, for measurement alone (bench/): no part of what a host is given.
-// The relation asks of its caller what the library's own callers are proved to keep; the others take any input.
+// The relations ask of their caller what the library's own callers are proved to keep; the others take any input.
+ghost use mathlib.Core.Path.{_≡_};
+ghost use Rattle.plane.specs.Placed.{BoxInPlaces, Upright};
 ghost use Rattle.outline.specs.Region.{regionOf};
 ghost use Rattle.outline.specs.Rules.{Keeps};
+ghost use Rattle.relation.specs.Relation.{regionBox};
+ghost use Rattle.trial.specs.Given.{boxWith};
 use outline::Checked;
 use outline::check_region;
 use pair::pair_of;
+use plane::Box;
 use relation::region_box;
 use relation::region_seen;
 
@@ -31,6 +36,39 @@ pub extern "C" fn trial_relation(
     let own = region_box(first, first_ends);
     let b = region_box(second, second_ends);
     let seen = region_seen(b, own, first, first_ends);
+    seen.set as u32 + 65536 * seen.pieces as u32
+}
+
+// The same where both boxes are at hand: the relation of a region to the box with the first four lines; the next four are its own box's.
+#[no_mangle]
+pub extern "C" fn trial_seen(
+    west: u64,
+    south: u64,
+    east: u64,
+    north: u64,
+    own_west: u64,
+    own_south: u64,
+    own_east: u64,
+    own_north: u64,
+    outline: &[i32],
+    ends: &[u16],
+) -> u32
+    requires { ⌜ BoxInPlaces (boxWith west south east north) × Upright (boxWith west south east north) ⌝ }
+    requires { ⌜ Keeps 4 (regionOf (now outline) (now ends)) × (boxWith «own_west» «own_south» «own_east» «own_north» ≡ regionBox (regionOf (now outline) (now ends))) ⌝ }
+{
+    let b = Box {
+        west,
+        south,
+        east,
+        north,
+    };
+    let own = Box {
+        west: own_west,
+        south: own_south,
+        east: own_east,
+        north: own_north,
+    };
+    let seen = region_seen(b, own, outline, ends);
     seen.set as u32 + 65536 * seen.pieces as u32
 }
 
