@@ -157,7 +157,7 @@ static void star_with_a_lane(Parcel *p) {
     state = 2862933555777941757u;
     p->rings = 0;
     star(p, &n, 64, -900000, -900000, 15000);
-    p->xy[2 * 56] = 900000; /* vertex 56 looks north-east: further out on its own ray no edge meets another */
+    p->xy[2 * 56] = 900000; /* vertex 56 looks north-east; a star stays one where a vertex goes further out */
     p->xy[2 * 56 + 1] = 900000;
 }
 
@@ -177,9 +177,18 @@ static void comb_with_a_lane(Parcel *p) {
     end_ring(p, n);
 }
 
+/* A triangle with all but one vertex on one short side: its edges lie on one line and in one band. */
+static void line_with_a_lane(Parcel *p) {
+    size_t n = 0;
+    p->rings = 0;
+    for (int k = 0; k < 63; k++) add_vertex(p, &n, -900000 + 500.0 * k, 250.0 * k);
+    add_vertex(p, &n, 900000, -900000);
+    end_ring(p, n);
+}
+
 const char *hard_shape(size_t k, Parcel *p) {
     static const char *names[] = { "smooth ring", "square spiral", "spiral at 22 degrees", "diamond spiral", "flat zigzag", "zigzag at 22 degrees", "diagonal zigzag",
-        "star with a lane", "comb with a lane" };
+        "star with a lane", "comb with a lane", "line with a lane" };
     const double eighth = 0.7853981633974483;
     if (sizeof names / sizeof *names <= k) return 0;
     if (k == 0) {
@@ -193,8 +202,10 @@ const char *hard_shape(size_t k, Parcel *p) {
         zigzag(p, (double)(k - 4) * eighth / 2);
     } else if (k == 7) {
         star_with_a_lane(p);
-    } else {
+    } else if (k == 8) {
         comb_with_a_lane(p);
+    } else {
+        line_with_a_lane(p);
     }
     return names[k];
 }

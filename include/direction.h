@@ -51,9 +51,9 @@ uint32_t direction_report(const uint8_t *card, size_t card_length, uint8_t *repo
 #define DIRECTION_STACK 4096      /* stack of a call, at most; memcpy and memset are the host's and not counted */
 #define DIRECTION_CODE 24576      /* code and constants of the archive, at most; it has no variables */
 
-/* Instructions (x86-64) of a call on the slowest card that was found, and on the slowest that is answered with 0; another may take more. */
-#define DIRECTION_INSTRUCTIONS 5000000
-#define DIRECTION_INSTRUCTIONS_ANSWERED 700000
+/* Instructions (x86-64): no card that was tried took more, and none that is answered with 0 more than the second; another card may. */
+#define DIRECTION_INSTRUCTIONS 8000000
+#define DIRECTION_INSTRUCTIONS_ANSWERED 1000000
 
 /* The refusals, in the order in which they are looked for. The first that applies is answered. */
 #define DIRECTION_REFUSED_REPORT_SHORT 10  /* the report buffer has under 38 bytes; the card is not looked at */
@@ -114,12 +114,12 @@ static inline unsigned direction_word(const uint8_t *report, unsigned place)
  * with the memcpy and memset of the C library that rt's programs run with; another card may take more, up to the first number. Code and
  * constants: 19,674 bytes (readelf). The gate (.ci/run) takes all three again and holds them to the sizes above.
  *
- * Instructions: 4,635,002 on a card of 32 parcels, each a comb of 64 vertices with one vertex far out: all are checked, and then the card is
- * refused with 17. 588,058 on a card of two such combs, which is answered. Counted by valgrind's callgrind (tools/host-instructions), memcpy
- * and memset of glibc 2.36 included, over 2,295 cards: the 2,000 of `independent cards 2000 1`, the examples, and those that
- * tools/host-slow.c makes to be slow. What costs most is rule 6 on edges that lie near each other, so these have parcels of 64 vertices
- * whose edges nearly all do: spirals and zigzags at many angles, and small shapes beside one far vertex; two of them have every edge across
- * all four lines of the other's box. Not taken again by the gate.
+ * Instructions: 7,287,346 on a card of 32 parcels, each with 63 vertices on one straight side and one far out: all are checked, and then the
+ * card is refused with 17. 915,012 on a card of two such parcels, which is answered. Counted by valgrind's callgrind
+ * (tools/host-instructions), memcpy and memset of glibc 2.36 included, over 2,298 cards: the 2,000 of `independent cards 2000 1`, the
+ * examples, and those that tools/host-slow.c makes to be slow. What costs most is rule 6 on edges that lie near each other, so these have
+ * parcels of 64 vertices whose edges nearly all do: spirals and zigzags at many angles, and small shapes beside one far vertex; in two of
+ * them every edge of one parcel but two crosses all four lines of the other's box. The gate does not count again.
  */
 
 #ifdef __cplusplus
