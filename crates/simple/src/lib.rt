@@ -102,14 +102,12 @@ fn ring_scan(outline: &[i32], from: usize, n: usize) -> Scan
     }
 }
 
-fn edges_share(outline: &[i32], from: usize, n: usize, i: usize, j: usize) -> bool
-    requires { ⌜ Stretch (now outline) from n × (i < n) × (j < n) ⌝ }
-    ensures { λ r. ⌜ r ≡ shares (ringEdge (now (outline .entry)) from n i) (ringEdge (now (outline .entry)) from n j) ⌝ }
+// Does edge j of the ring share a point with g?
+fn shares_with(g: Edge, outline: &[i32], from: usize, n: usize, j: usize) -> bool
+    requires { ⌜ EdgeInPlaces g × Stretch (now outline) from n × (j < n) ⌝ }
+    ensures { λ r. ⌜ r ≡ shares g (ringEdge (now (outline .entry)) from n j) ⌝ }
 {
-    shares(
-        ring_edge(outline, from, n, i),
-        ring_edge(outline, from, n, j),
-    )
+    shares(g, ring_edge(outline, from, n, j))
 }
 
 // A ring of four has two pairs of strangers.
@@ -117,10 +115,10 @@ fn four_meets(outline: &[i32], from: usize, n: usize) -> bool
     requires { ⌜ Stretch (now outline) from n × (n ≡ 4) ⌝ }
     ensures { λ r. ⌜ r ≡ meets (now (outline .entry)) from n ⌝ }
 {
-    if edges_share(outline, from, n, 0, 2) {
+    if shares_with(ring_edge(outline, from, n, 0), outline, from, n, 2) {
         return true;
     }
-    edges_share(outline, from, n, 1, 3)
+    shares_with(ring_edge(outline, from, n, 1), outline, from, n, 3)
 }
 
 // ---- A small ring: the range of each edge laid out in each axis.
@@ -185,7 +183,7 @@ fn near_edges_share(
     if ranges_apart(souths, norths, i, j) {
         return false;
     }
-    edges_share(outline, from, n, i, j)
+    shares_with(ring_edge(outline, from, n, i), outline, from, n, j)
 }
 
 // Past the last stranger of edge i. The ring's last edge is a neighbour of its first.
@@ -264,14 +262,14 @@ fn small_meets(outline: &[i32], from: usize, n: usize) -> bool
 
 // ---- A larger ring: the edges near edge i come as the bits of a word.
 
-fn pair_meets(outline: &[i32], from: usize, n: usize, i: usize, j: usize) -> bool
-    requires { ⌜ Stretch (now outline) from n × (i + 1 < j) × (j < n) ⌝ }
+fn pair_meets(g: Edge, outline: &[i32], from: usize, n: usize, i: usize, j: usize) -> bool
+    requires { ⌜ Stretch (now outline) from n × (i + 1 < j) × (j < n) × (g ≡ ringEdge (now outline) from n i) ⌝ }
     ensures { λ r. ⌜ r ≡ meetPair (now (outline .entry)) from n i j ⌝ }
 {
     if i + n == j + 1 {
         return false;
     }
-    edges_share(outline, from, n, i, j)
+    shares_with(g, outline, from, n, j)
 }
 
 // Bit z of the word stands for edge j + z.
@@ -279,6 +277,7 @@ fn word_meets(outline: &[i32], from: usize, n: usize, i: usize, j: usize, word: 
     requires { ⌜ Stretch (now outline) from n × (i + 1 < j) × (j ≤ n) × Candidates (now outline) from n i j word ⌝ }
     ensures { λ r. ⌜ r ≡ meetsWith (now (outline .entry)) from n i ⌝ }
 {
+    let g = ring_edge(outline, from, n, i);
     let mut rest = word;
     let mut at = j;
     while rest != 0 {
@@ -287,7 +286,7 @@ fn word_meets(outline: &[i32], from: usize, n: usize, i: usize, j: usize, word: 
         if n <= at {
             return false;
         }
-        if pair_meets(outline, from, n, i, at) {
+        if pair_meets(g, outline, from, n, i, at) {
             return true;
         }
         rest = (rest >> zeros) >> 1;

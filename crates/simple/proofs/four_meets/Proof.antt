@@ -1,26 +1,40 @@
 use mathlib.Core.Path.{sym, _∙_}
+use native.Mathlib.Omega.{arith}
+use Rattle.ring.proofs.Stretch.{edge-in-places}
 use Rattle.simple.proofs.Parts.{four-first, four-second}
 use borrow.Author.Needs.{needs}
 use Rattle.simple.proofs.four_meets.Statement.{statement}
 use Rattle.simple.proofs.four_meets.Tie as tie
 
-edges-share-requires : tie.Need-edges-share-requires
-edges-share-requires c κs = search needs
+ring-edge-requires : tie.Need-ring-edge-requires
+ring-edge-requires c κs = search needs
+
+shares-with-requires : tie.Need-shares-with-requires
+shares-with-requires c κs =
+    let p = c .before .pre in
+    (rw (c .ring-edge .ensures) (edge-in-places (p .0) (omega (arith, p .1))), p .0, omega (arith, p .1))
 
 returns : tie.Need-returns
 returns c =
-    let a = c .before .before .args in
-    four-first (a .outline .now) (a .from) (a .n) (c .before .before .pre .1) (sym (c .before .edges-share .ensures) ∙ c .if1 .taken)
+    let a = c .before .before .before .args in
+    four-first (a .outline .now) (a .from) (a .n) (c .before .before .before .pre .1)
+    (rw (c .before .before .ring-edge .ensures) at (sym (c .before .shares-with .ensures) ∙ c .if1 .taken))
 
-edges-share-requires-2 : tie.Need-edges-share-requires-2
-edges-share-requires-2 c κs = search needs
+ring-edge-requires-2 : tie.Need-ring-edge-requires-2
+ring-edge-requires-2 c κs = search needs
+
+shares-with-requires-2 : tie.Need-shares-with-requires-2
+shares-with-requires-2 c κs =
+    let p = c .before .before .before .before .pre in
+    (rw (c .ring-edge2 .ensures) (edge-in-places (p .0) (omega (arith, p .1))), p .0, omega (arith, p .1))
 
 returns-2 : tie.Need-returns-2
 returns-2 c =
-    let a = c .before .before .before .args in
-    c .edges-share2 .ensures
-    ∙ four-second (a .outline .now) (a .from) (a .n) (c .before .before .before .pre .1) (sym (c .before .before .edges-share .ensures) ∙ c .before .if1 .left)
+    let s = c .before .before .before .before .before in
+    let a = s .args in
+    (rw (c .before .ring-edge2 .ensures) at (c .shares-with2 .ensures))
+    ∙ four-second (a .outline .now) (a .from) (a .n) (s .pre .1)
+    (rw (c .before .before .before .before .ring-edge .ensures) at (sym (c .before .before .before .shares-with .ensures) ∙ c .before .before .if1 .left))
 
 pub four-meets-spec : {M : Type 1} → statement M
-four-meets-spec =
-    tie.close (tie.spec edges-share-requires returns edges-share-requires-2 returns-2)
+four-meets-spec = tie.close (tie.spec ring-edge-requires shares-with-requires returns ring-edge-requires-2 shares-with-requires-2 returns-2)

@@ -1,5 +1,6 @@
 use mathlib.Core.Path.{sym, _∙_}
 use native.Mathlib.Omega.{arith}
+use Rattle.ring.proofs.Stretch.{edge-in-places}
 use Rattle.simple.proofs.Near.{apart}
 use borrow.Author.Needs.{needs}
 use Rattle.simple.proofs.near_edges_share.Statement.{statement}
@@ -30,11 +31,16 @@ returns-2 c =
     apart (a .outline .now) (a .from) (a .n) 1 (a .souths .now) (a .norths .now) (omega arith) (p .1 .0 .1) (a .i) (a .j) (p .0 .1) (p .0 .2)
     (sym (c .before .ranges-apart2 .ensures) ∙ c .if2 .taken)
 
-edges-share-requires : tie.Need-edges-share-requires
-edges-share-requires c κs = search needs
+ring-edge-requires : tie.Need-ring-edge-requires
+ring-edge-requires c κs = search needs
+
+shares-with-requires : tie.Need-shares-with-requires
+shares-with-requires c κs =
+    let p = start (c .before .before .before .before) .pre in
+    (rw (c .ring-edge .ensures) (edge-in-places (p .0 .0) (p .0 .1)), p .0 .0, p .0 .2)
 
 returns-3 : tie.Need-returns-3
-returns-3 c = search needs
+returns-3 c = rw (c .shares-with .ensures, c .before .ring-edge .ensures)
 
 pub near-edges-share-spec : {M : Type 1} → statement M
 near-edges-share-spec =
@@ -44,5 +50,6 @@ near-edges-share-spec =
     returns
     ranges-apart-requires-2
     returns-2
-    edges-share-requires
+    ring-edge-requires
+    shares-with-requires
     returns-3)

@@ -13,33 +13,36 @@ use Rattle.simple.proofs.word_meets.Statement.{statement}
 use Rattle.simple.proofs.word_meets.Tie as tie
 
 abbrev Inv-loop : tie.InvT-loop
-Inv-loop outline from n i j word rest₀ at₀ rest at = (i + 1 < at) × (at ≤ n) × (rest < 2 ^ 64) × Candidates outline from n i at rest
+Inv-loop outline from n i j word g rest₀ at₀ rest at = (i + 1 < at) × (at ≤ n) × (rest < 2 ^ 64) × Candidates outline from n i at rest
 
 abbrev μ-loop : tie.MeasureT-loop
-μ-loop outline from n i j word rest₀ at₀ rest at = rest
+μ-loop outline from n i j word g rest₀ at₀ rest at = rest
+
+ring-edge-requires : tie.Need-ring-edge-requires Inv-loop μ-loop
+ring-edge-requires c κs = (c .pre .0, omega (arith, c .pre .1, c .pre .2))
 
 loop-holds : tie.Need-loop-holds Inv-loop μ-loop
-loop-holds c = (c .pre .1, c .pre .2, omega arith, c .pre .3)
+loop-holds c = let p = c .before .pre in (p .1, p .2, omega arith, p .3)
 
 cast-at : tie.Need-cast-at Inv-loop μ-loop
 cast-at c = record { fits = omega (arith, trailing-le 64 (c .before .loop .rest)) }
 
 add-at : tie.Need-add-at Inv-loop μ-loop
-add-at c = record { fits = omega (arith, trailing-le 64 (c .before .loop .rest), c .before .loop .inv .1, c .before .before .pre .0 .few) }
+add-at c = record { fits = omega (arith, trailing-le 64 (c .before .loop .rest), c .before .loop .inv .1, c .before .before .before .pre .0 .few) }
 
 returns : tie.Need-returns Inv-loop μ-loop
 returns c =
     let l = c .before .before .loop in
-    let a = c .before .before .before .args in
+    let a = c .before .before .before .before .args in
     none-left (a .outline .now) (a .from) (a .n) (a .i) (l .at) (l .rest) (l .inv .3) (c .if1 .taken)
 
 pair-meets-requires : tie.Need-pair-meets-requires Inv-loop μ-loop
-pair-meets-requires c κs = let l = c .before .before .loop in (c .before .before .before .pre .0, omega (arith, l .inv .0), c .if1 .left)
+pair-meets-requires c κs = let l = c .before .before .loop in (c .before .before .before .before .pre .0, omega (arith, l .inv .0), c .if1 .left, c .before .before .before .ring-edge .ensures)
 
 returns-2 : tie.Need-returns-2 Inv-loop μ-loop
 returns-2 c =
     let l = c .before .before .before .before .loop in
-    let a = c .before .before .before .before .before .args in
+    let a = c .before .before .before .before .before .before .args in
     with-found (a .outline .now) (a .from) (a .n) (a .i) (l .at + trailingZeros 64 (l .rest)) (c .before .before .if1 .left) (sym (c .before .pair-meets .ensures) ∙ c .if2 .taken)
 
 cast-rest : tie.Need-cast-rest Inv-loop μ-loop
@@ -57,7 +60,7 @@ loop-less c = omega (arith, shr-le (c .before .before .before .before .loop .res
 loop-again : tie.Need-loop-again Inv-loop μ-loop
 loop-again c =
     let l = c .before .before .before .before .loop in
-    let a = c .before .before .before .before .before .args in (
+    let a = c .before .before .before .before .before .before .args in (
       omega (arith, l .inv .0),
       omega (arith, c .before .before .if1 .left),
       omega (arith, l .inv .2, shr-le (l .rest) (trailingZeros 64 (l .rest))),
@@ -67,7 +70,7 @@ loop-again c =
 returns-3 : tie.Need-returns-3 Inv-loop μ-loop
 returns-3 c =
     let l = c .before .loop in
-    let a = c .before .before .args in
+    let a = c .before .before .before .args in
     none-set (a .outline .now) (a .from) (a .n) (a .i) (l .at) (l .rest) (l .inv .3) (c .loop-test .left)
 
 pub word-meets-spec : {M : Type 1} → statement M
@@ -76,6 +79,7 @@ word-meets-spec =
     (tie.spec
     Inv-loop
     μ-loop
+    ring-edge-requires
     loop-holds
     cast-at
     add-at
