@@ -49,11 +49,11 @@ uint32_t direction_report(const uint8_t *card, size_t card_length, uint8_t *repo
 #define DIRECTION_REPORT_LENGTH 38
 #define DIRECTION_CARD_MOST 17036 /* the longest card of any number of parcels; a longer one is refused (14) */
 #define DIRECTION_STACK 4096      /* stack of a call, at most; memcpy and memset are the host's and not counted */
-#define DIRECTION_CODE 24576      /* code and constants of the archive, at most; it has no variables */
+#define DIRECTION_CODE 28672      /* code and constants of the archive, at most; it has no variables */
 
 /* Instructions (x86-64): no card that was tried took more, and none that is answered with 0 more than the second; another card may. */
-#define DIRECTION_INSTRUCTIONS 8000000
-#define DIRECTION_INSTRUCTIONS_ANSWERED 1000000
+#define DIRECTION_INSTRUCTIONS 6000000
+#define DIRECTION_INSTRUCTIONS_ANSWERED 700000
 
 /* The refusals, in the order in which they are looked for. The first that applies is answered. */
 #define DIRECTION_REFUSED_REPORT_SHORT 10  /* the report buffer has under 38 bytes; the card is not looked at */
@@ -108,14 +108,14 @@ static inline unsigned direction_word(const uint8_t *report, unsigned place)
  *   then             for each parcel, for each vertex: x and y, signed, four bytes each. x grows east, y north.
  *   The length is exactly 12 + 4 P + 2 R + 8 V. Rings are clockwise, the last vertex joins the first and is not repeated.
  *
- * Where the numbers above come from, of the archive as rt makes it. Stack: 3,392 bytes, added up from its code (tools/host-stack): it has no
+ * Where the numbers above come from, of the archive as rt makes it. Stack: 3,720 bytes, added up from its code (tools/host-stack): it has no
  * recursion and no frame of variable size, so its deepest chain of calls tells what any card can take. Seen in runs (tools/host-cost.c):
- * 3,184 bytes, the most over 2,001 cards, the 2,000 good and bad ones that `independent cards 2000 1` makes and examples/two-parcels.card,
+ * 3,472 bytes, the most over 2,001 cards, the 2,000 good and bad ones that `independent cards 2000 1` makes and examples/two-parcels.card,
  * with the memcpy and memset of the C library that rt's programs run with; another card may take more, up to the first number. Code and
- * constants: 19,674 bytes (readelf). The gate (.ci/run) takes all three again and holds them to the sizes above.
+ * constants: 24,915 bytes (readelf). The gate (.ci/run) takes all three again and holds them to the sizes above.
  *
- * Instructions: 7,287,346 on a card of 32 parcels, each with 63 vertices on one straight side and one far out: all are checked, and then the
- * card is refused with 17. 915,012 on a card of two such parcels, which is answered. Counted by valgrind's callgrind
+ * Instructions: 5,698,034 on a card of 32 parcels, each a spiral that stands on its corner, the last one turned round: all are checked, and
+ * then the card is refused with 7. 652,088 on a card of two such spirals, which is answered. Counted by valgrind's callgrind
  * (tools/host-instructions), memcpy and memset of glibc 2.36 included, over 2,298 cards: the 2,000 of `independent cards 2000 1`, the
  * examples, and those that tools/host-slow.c makes to be slow. What costs most is rule 6 on edges that lie near each other, so these have
  * parcels of 64 vertices whose edges nearly all do: spirals and zigzags at many angles, and small shapes beside one far vertex; in two of
