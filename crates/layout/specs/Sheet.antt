@@ -5,8 +5,9 @@
 --   coordinatesLength, recordsLength, relationsLength    how long the three lists are
 --   Sheet                   the three lists;  sheetOf xs records relations  the sheet whose lists these are
 --   RightLists s            rule 11 is kept: each list has its length
+--   RightTables records relations    the same for a reading, which is lent these two lists only
 --   wrongLists s            the test of rule 11. Its meaning: proofs/RightLists, `lists-mean`
---   wrongTables records relations    the same for a reading, which is lent these two lists only
+--   wrongTables records relations    the test for a reading
 use mathlib.Core.Path.{_≡_}
 use mathlib.Core.Bool.{Bool, not, _||_}
 use mathlib.Core.List.{List}
@@ -48,6 +49,9 @@ pub record RightLists (s : Sheet) : Type 0 where
   pub coordinate-list : length (s .coordinates) ≡ coordinatesLength
   pub record-list : length (s .records) ≡ recordsLength
   pub relation-list : length (s .relations) ≡ relationsLength
+
+abbrev pub RightTables : (records relations : List ℕ) → Type 0
+RightTables records relations = (length records ≡ recordsLength) × (length relations ≡ relationsLength)
 
 unfoldable pub wrongTables : (records relations : List ℕ) → Bool
 wrongTables records relations = not (eqb (length records) recordsLength) || not (eqb (length relations) relationsLength)

@@ -1,5 +1,5 @@
--- Which tile of a box holds another box, by its four lines. The code looks at no edge of a region whose box one tile holds; no promise hangs
--- on these names.
+-- No rule stands here: which tile of a box holds another box, by its four lines. The code looks at no edge of a region whose box one tile
+-- holds; no promise hangs on these names.
 --   linesBefore lo hi x    how many of the lines lo and hi come before x;  linesUpTo  before x or at it
 --   tileAround b own       the tile of b that holds the box `own`, touching no line; 9 where there is none
 --   tileHolding b own R    the same for the region R with that box; 9 also where the ends of its first edge are equal

@@ -19,7 +19,7 @@ use Rattle.plane.specs.Points.{Lines}
 use Rattle.plane.specs.TileSet.{bit}
 use Rattle.outline.specs.Region.{Region, Parcel, nothing, outline}
 use Rattle.relation.specs.Relation.{RegionBox, RegionHas}
-use Rattle.layout.specs.Sheet.{Sheet, slots}
+use Rattle.layout.specs.Sheet.{Sheet, slots, RightTables}
 use Rattle.layout.specs.Standing.{occupied}
 use Rattle.layout.specs.Layout.{selfCell}
 use Rattle.layout.specs.Slots.{ringsIn, emptyIn, cellIn}
@@ -27,7 +27,7 @@ use Rattle.layout.proofs.Standing.{stand-fewer, layout-empty}
 use Rattle.sheet.specs.declared.Reading.{Reading}
 use Rattle.sheet.specs.declared.Reading.the-variants.{Relation, Refused}
 use Rattle.sheet.specs.Readings.{readingNumber, readingValue}
-use Rattle.sheet.specs.Says.{RightTables, Readable, ReadSays, read-done, read-lists, read-slot, read-empty}
+use Rattle.sheet.specs.Says.{Readable, ReadSays, read-done, read-lists, read-slot, read-empty}
 use Rattle.sheet.proofs.Call as call
 use Rattle.sheet.proofs.read_cell.Reads as read-reads
 use Rattle.sheet.proofs.row.Reads as row-reads

@@ -4,18 +4,16 @@
 --   PutSays s i R n          of a put of the region R into slot i: 0, one of these, or the lowest of 1 to 7 that R breaks
 --   RemoveSays s i n         of a removal from slot i: 0, one of these, or 9
 --   ClearSays s n            of a clearing: 0 or 11
---   RightTables records relations      the two lists that a reading is lent have their lengths
 --   Readable records relations i j     the cell of slots i and j may be read
 --   ReadSays records relations i j n   of reading that cell: 0, 11, then 8, then 9
 use mathlib.Core.Path.{_≡_}
 use mathlib.Core.Logic.{_⊎_, _≢_}
 use mathlib.Core.List.{List}
 use Prim.Native.Nat.{ℕ, _≤_, _<_}
-use lib.ListN.{length}
 use Rattle.outline.specs.Region.{Region, nothing, outline}
 use Rattle.outline.specs.Rules.{KeepsRules, RefusedWith}
 use Rattle.outline.specs.Refusals.{number, slot-number, slot-empty, sheet-lists, sheet-damaged}
-use Rattle.layout.specs.Sheet.{Sheet, slots, recordsLength, relationsLength, RightLists}
+use Rattle.layout.specs.Sheet.{Sheet, slots, RightLists, RightTables}
 use Rattle.layout.specs.Slots.{ringsIn, parcelAt}
 use Rattle.layout.specs.Damage.{Undamaged}
 use Rattle.layout.specs.Changes.{Changeable}
@@ -38,9 +36,6 @@ pub data RemoveSays (s : Sheet) (i : ℕ) : ℕ → Type 0 where
 pub data ClearSays (s : Sheet) : ℕ → Type 0 where
   clear-done : RightLists s → ClearSays s 0
   clear-refused : (RightLists s → ⊥) → ClearSays s (number sheet-lists)
-
-abbrev pub RightTables : (records relations : List ℕ) → Type 0
-RightTables records relations = (length records ≡ recordsLength) × (length relations ≡ relationsLength)
 
 pub record Readable (records relations : List ℕ) (i j : ℕ) : Type 0 where
   pub tables : RightTables records relations
