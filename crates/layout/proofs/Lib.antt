@@ -1,17 +1,16 @@
-mod Stores
+pub mod Stores
 mod Blocks
 mod Cross
 pub mod RightLists
 pub mod Slots
 pub mod Undamaged
-mod SlotTests
+pub mod SlotTests
 pub mod Refusing
 pub mod Written
 pub mod Renewed
 pub mod Standing
 pub mod Blank
-mod SlotCells
+pub mod SlotCells
 pub mod BoxList
 pub mod Steps
 pub mod Rows
-pub mod Only

@@ -1,8 +1,4 @@
-// How parcels lie in the three lists of a sheet. Nothing above names a room, a record or a length, but for the list of boxes that a load
-// hands from parcel to parcel.
-pub mod boxes;
+// How parcels lie in the three lists of a sheet: definitions, laws, and the lists' lengths as numbers. There is no function here: `storage`
+// looks at the lists, `placing` writes a parcel into them. Nothing above these three names a room, a record or a length, but for the list of
+// boxes that a load hands from parcel to parcel.
 pub mod lists;
-pub mod refused;
-pub mod storage;
-pub mod table;
-pub mod writing;
