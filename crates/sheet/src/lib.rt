@@ -8,19 +8,19 @@ ghost use Rattle.layout.specs.Sheet.{sheetOf};
 ghost use Rattle.sheet.specs.Changes.{putNumber, put, removeNumber, remove, clearNumber, clear};
 ghost use Rattle.sheet.specs.Readings.{readNumber, readValue, readingOf, readingNumber, readingValue, rowOf, rowStart, tileCount};
 use layout::lists::LAST_SLOT;
-use layout::lists::clear_lists;
-use layout::lists::wrong_lists;
-use layout::lists::wrong_tables;
-use layout::refused::change_number;
-use layout::storage::is_empty;
-use layout::table::cell_in;
-use layout::table::row_in;
-use layout::writing::write_parcel;
 use outline::check_region;
 use outline::number_of;
 use outline::refusals::SHEET_LISTS;
 use outline::refusals::SLOT_EMPTY;
 use outline::refusals::SLOT_NUMBER;
+use placing::writing::write_parcel;
+use storage::lists::clear_lists;
+use storage::lists::wrong_lists;
+use storage::lists::wrong_tables;
+use storage::refused::change_number;
+use storage::storage::is_empty;
+use storage::table::cell_in;
+use storage::table::row_in;
 
 // What reading a cell answers: the relation that stands there, or the number of the refusal.
 pub enum Reading {

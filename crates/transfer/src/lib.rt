@@ -18,14 +18,14 @@ use card::read_ends;
 use card::read_numbers;
 use card::rules::card_number;
 use card::slot_at;
-use layout::boxes::BOXES;
-use layout::lists::wrong_lists;
-use layout::refused::whole_number;
-use layout::writing::write_among;
+use layout::lists::BOXES;
 use outline::MOST_RINGS;
 use outline::refusals::BUFFER_SHORT;
 use outline::refusals::SHEET_LISTS;
+use placing::writing::write_among;
 use sheet::clear;
+use storage::lists::wrong_lists;
+use storage::refused::whole_number;
 use writing::count_all;
 use writing::put_card;
 

@@ -16,11 +16,11 @@ use endian::put_numbers;
 use endian::put_u16;
 use endian::put_words;
 use layout::lists::SLOTS;
-use layout::storage::ends_at;
-use layout::storage::is_empty;
-use layout::storage::outline_at;
-use layout::storage::ring_count;
 use outline::last_end;
+use storage::storage::ends_at;
+use storage::storage::is_empty;
+use storage::storage::outline_at;
+use storage::storage::ring_count;
 
 fn parcels_in(records: &[u16], slot: usize) -> usize
     requires { ⌜ Counted (now records) slot ⌝ }
