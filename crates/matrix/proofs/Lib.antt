@@ -4,7 +4,5 @@ pub mod Kept
 pub mod Cells
 pub mod Holding
 pub mod Matrix
-pub mod Directions
-pub mod DirectionSets
 pub mod Meaning
 pub mod Only

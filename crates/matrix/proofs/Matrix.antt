@@ -26,8 +26,7 @@ use Rattle.plane.proofs.Lists.{getD-tab}
 use Rattle.plane.proofs.TileSet.{one-le}
 use Rattle.matrix.specs.Grid.{Cell}
 use Rattle.matrix.specs.Holding.{Holds, columnCount, rowCount, cellAt, holds}
-use Rattle.matrix.specs.Matrix.{cellValue, matrixOf, exchanged}
-use Rattle.matrix.specs.Directions.{valueAt}
+use Rattle.matrix.specs.Matrix.{cellValue, matrixOf, valueAt, exchanged}
 use Rattle.matrix.proofs.Lines.{lines-most, lines-least, lines-turned}
 use Rattle.matrix.proofs.Cells.{cell-within, cell-turned}
 use Rattle.matrix.proofs.Holding.{holds-means, holds-second-means}

@@ -24,8 +24,7 @@ use Rattle.plane.proofs.Logic.{never, iff-join}
 use Rattle.plane.proofs.Lists.{getD-tab}
 use Rattle.matrix.specs.Grid.{Strips, Cell}
 use Rattle.matrix.specs.Holding.{HoldsWhere, Holds, columnCount, rowCount}
-use Rattle.matrix.specs.Matrix.{cellValue, matrixOf, flatOf, threeRows}
-use Rattle.matrix.specs.Directions.{valueAt}
+use Rattle.matrix.specs.Matrix.{cellValue, matrixOf, flatOf, threeRows, valueAt}
 use Rattle.matrix.proofs.Lines.{lines-means}
 use Rattle.matrix.proofs.Grid.{strips-means}
 use Rattle.matrix.proofs.Cells.{cell-within, cell-there}

@@ -1,5 +1,5 @@
 -- The contracts of the functions that other crates call leave one answer each: two answers that meet a function's own contract are equal.
---   grid-only, matrix-only, flat-only, directions-only    of `grid_of`, `matrix_of`, `flat_of`, `directions_of`
+--   grid-only, matrix-only, flat-only    of `grid_of`, `matrix_of`, `flat_of`
 use mathlib.Core.Path.{_≡_, sym, _∙_}
 use mathlib.Core.List.{List}
 use Prim.Native.Nat.{ℕ}
@@ -7,7 +7,6 @@ use Rattle.matrix.specs.declared.GridLines.{GridLines}
 use Rattle.matrix.proofs.grid_of.Reads as grid
 use Rattle.matrix.proofs.matrix_of.Reads as matrix
 use Rattle.matrix.proofs.flat_of.Reads as flat
-use Rattle.matrix.proofs.directions_of.Reads as directions
 
 pub grid-only : (κs : _) (a : _) (g g' : GridLines) (s s' : _) → grid.Post κs a g s → grid.Post κs a g' s' → g ≡ g'
 grid-only κs a g g' s s' p q = p ∙ sym q
@@ -17,6 +16,3 @@ matrix-only κs a m m' s s' p q = p ∙ sym q
 
 pub flat-only : (κs : _) (a : _) (l l' : List ℕ) (s s' : _) → flat.Post κs a l s → flat.Post κs a l' s' → l ≡ l'
 flat-only κs a l l' s s' p q = p ∙ sym q
-
-pub directions-only : (κs : _) (a : _) (d d' : ℕ) (s s' : _) → directions.Post κs a d s → directions.Post κs a d' s' → d ≡ d'
-directions-only κs a d d' s s' p q = p ∙ sym q

@@ -3,6 +3,7 @@
 --   cellValue a b r s i j    the value in row i from the north and column j from the west; r is the relation of the region with
 --                            box a to the other, s that of the other to it
 --   matrixOf a b r s         the array, a list of three rows;  flatOf  the same nine numbers by row;  threeRows  nine numbers as three rows
+--   valueAt m i j            the value in row i from the north and column j from the west
 --   exchanged v              1 and 2 exchanged
 use mathlib.Core.Bool.{_&&_}
 use mathlib.Core.List.{List, []}
@@ -27,6 +28,9 @@ flatOf m = tab (λ k. getD (getD m (k / 3) []) (k % 3) 0) 9
 
 abbrev pub threeRows : List ℕ → List (List ℕ)
 threeRows l = tab (λ i. tab (λ j. getD l (3 * i + j) 0) 3) 3
+
+abbrev pub valueAt : List (List ℕ) → (i j : ℕ) → ℕ
+valueAt m i j = getD (getD m i []) j 0
 
 abbrev pub exchanged : ℕ → ℕ
 exchanged v = pick (eqb v 1) 2 (pick (eqb v 2) 1 v)

@@ -1,4 +1,4 @@
-// Two boxes and the two relations between their regions: the grid of both boxes' lines, the objects interaction matrix, the directions.
+// Two boxes and the two relations between their regions: the grid of both boxes' lines, the objects interaction matrix.
 ghost use mathlib.Core.Path.{_≡_};
 ghost use Prim.Native.Nat.{_+_, _*_, _≤_, _<_};
 ghost use Rattle.plane.specs.Lists.{tab};
@@ -6,23 +6,20 @@ ghost use Rattle.plane.specs.TileSet.{one-if};
 ghost use Rattle.matrix.specs.Holding.{rangeOf, holds};
 ghost use Rattle.matrix.specs.Kept.{gridOf, cellIn, rectangleOf};
 ghost use Rattle.matrix.specs.Matrix.{cellValue, matrixOf, flatOf};
-ghost use Rattle.matrix.specs.Directions.{directionsOf};
 use axis::lines_of;
-use compass::directions_at;
 use plane::Box;
 
 mod axis;
-mod compass;
 
 // The values of a cell that holds only the first region, only the second, or both.
-const FIRST: u8 = 1;
+pub const FIRST: u8 = 1;
 
-const SECOND: u8 = 2;
+pub const SECOND: u8 = 2;
 
-const BOTH: u8 = 3;
+pub const BOTH: u8 = 3;
 
 // The cells of a matrix, counted by row.
-const CELLS: usize = 9;
+pub const CELLS: usize = 9;
 
 // The distinct lines of one axis in rising order; the places past the count are 0.
 pub struct Rising {
@@ -160,17 +157,4 @@ pub fn flat_of(m: [[u8; 3]; 3]) -> [u8; 9]
         k += 1;
     }
     cells
-}
-
-// The compass places of the cells holding the first region from the cells holding the second.
-pub fn directions_of(m: [[u8; 3]; 3]) -> u16
-    ensures { λ r. ⌜ r ≡ directionsOf m ⌝ }
-{
-    let mut r: u16 = 0;
-    let mut c: usize = 0;
-    while c < CELLS {
-        r = r | directions_at(m, c);
-        c += 1;
-    }
-    r
 }

@@ -23,7 +23,7 @@ use Rattle.outline.specs.Check.{shortAt, outsideIn, breaksAt, firstBreaking, sh
 use Rattle.relation.specs.Relation.{regionBox, regionHas, relationOf, regionPieces}
 use Rattle.matrix.specs.Holding.{insert, linesOf, cellAt, rangeOf, holds}
 use Rattle.matrix.specs.Matrix.{cellValue, matrixOf, flatOf}
-use Rattle.matrix.specs.Directions.{sideOf, holdsFirst, holdsSecond, compassPlace, directed, directionsOf}
+use Rattle.compass.specs.Directions.{sideOf, holdsFirst, holdsSecond, compassPlace, directed, directionsOf}
 use Rattle.pair.specs.declared.Answer.{Answer}
 use Rattle.pair.specs.Answer.{pairOf, answerOf, answerFor, given, aroundOf}
 use Rattle.outlines.specs.Rows.{Row, rows}

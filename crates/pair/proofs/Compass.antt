@@ -16,8 +16,8 @@ use Rattle.outline.specs.Region.{Region}
 use Rattle.relation.specs.Relation.{RegionBox, RegionHas}
 use Rattle.matrix.specs.Grid.{Cell}
 use Rattle.matrix.specs.Holding.{HoldsWhere}
-use Rattle.matrix.specs.Matrix.{threeRows}
-use Rattle.matrix.specs.Directions.{valueAt, HoldsFirst, HoldsSecond, Direction}
+use Rattle.matrix.specs.Matrix.{threeRows, valueAt}
+use Rattle.compass.specs.Directions.{HoldsFirst, HoldsSecond, Direction}
 use Rattle.matrix.proofs.Meaning.{rows-at}
 use Rattle.pair.specs.declared.Answer.{Answer}
 use Rattle.pair.specs.Answer.{pairOf}

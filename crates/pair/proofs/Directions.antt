@@ -18,9 +18,9 @@ use Rattle.plane.proofs.TileSet.{set-lt, set-means, set-same}
 use Rattle.outline.specs.Region.{Region}
 use Rattle.relation.specs.Relation.{regionBox, relationOf}
 use Rattle.matrix.specs.Matrix.{threeRows}
-use Rattle.matrix.specs.Directions.{Direction, holdsFirst, directed, directionsOf, opposite}
+use Rattle.compass.specs.Directions.{Direction, holdsFirst, directed, directionsOf, opposite}
 use Rattle.matrix.proofs.Meaning.{flat-rows}
-use Rattle.matrix.proofs.Directions as matrix
+use Rattle.compass.proofs.Directions as compass
 use Rattle.pair.specs.Answer.{given, pairOf, aroundOf}
 use Rattle.pair.specs.Meaning.{Answered, RefusedPair}
 use Rattle.pair.proofs.Laws.{fields-are}
@@ -39,7 +39,7 @@ module _ (first second : Region) where
       go (inr x) = rw (refused-means first second (x .0) (x .1) (x .2) .1 (x .3)) refl
 
   pub directions-mean : (k : ℕ) → k < 9 → (bit (pairOf first second .directions) k ≡ 1) ↔ Direction (threeRows (pairOf first second .cells)) k
-  directions-mean k h = rw directions-are (matrix.directions-mean (threeRows (pairOf first second .cells)) k h)
+  directions-mean k h = rw directions-are (compass.directions-mean (threeRows (pairOf first second .cells)) k h)
 
   pub directions-below : pairOf first second .directions < 512
   unfolding directionsOf
@@ -77,4 +77,4 @@ module _ (first second : Region) where
   unfolding given
   directions-turned a =
       rw (fields-are first second a, fields-are second first (turned a))
-      (matrix.pair-opposite (regionBox first) (regionBox second) (relationOf (regionBox second) first) (relationOf (regionBox first) second))
+      (compass.pair-opposite (regionBox first) (regionBox second) (relationOf (regionBox second) first) (relationOf (regionBox first) second))

@@ -26,10 +26,10 @@ use Rattle.relation.proofs.Spread.{wide, high}
 use Rattle.relation.proofs.Within.{Shares, tile-within}
 use Rattle.matrix.specs.Holding.{linesOf, acrossLines, upLines, columnCount, rowCount, cellAt, rangeOf, holds}
 use Rattle.matrix.specs.Matrix.{cellValue, matrixOf, exchanged}
-use Rattle.matrix.specs.Directions.{HoldsFirst, HoldsSecond, Toward, Direction}
+use Rattle.compass.specs.Directions.{HoldsFirst, HoldsSecond, Toward, Direction}
 use Rattle.matrix.proofs.Lines.{lines-rise, lines-means}
 use Rattle.matrix.proofs.Matrix.{value-is, value-at, rows-size, columns-size, matrix-exchanged}
-use Rattle.matrix.proofs.Directions.{directions-mean}
+use Rattle.compass.proofs.Directions.{directions-mean}
 use Rattle.pair.specs.declared.Answer.{Answer}
 use Rattle.pair.specs.Answer.{given, pairOf}
 use Rattle.pair.specs.Meaning.{Answered}

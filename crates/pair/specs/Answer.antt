@@ -26,7 +26,7 @@ use Rattle.outline.specs.Check.{checkOf}
 use Rattle.relation.specs.Relation.{regionBox, regionSeen}
 use Rattle.matrix.specs.Holding.{rowCount, columnCount}
 use Rattle.matrix.specs.Matrix.{matrixOf, flatOf}
-use Rattle.matrix.specs.Directions.{directionsOf}
+use Rattle.compass.specs.Directions.{directionsOf}
 use Rattle.pair.specs.declared.Answer.{Answer}
 
 abbrev pub refusedWith : (n g r : ℕ) → Answer

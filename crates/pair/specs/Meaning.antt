@@ -18,7 +18,7 @@ use Rattle.outline.specs.Rules.{KeepsRules, RefusedWith}
 use Rattle.relation.specs.Relation.{RegionHas}
 use Rattle.matrix.specs.Grid.{Cell}
 use Rattle.matrix.specs.Holding.{HoldsWhere}
-use Rattle.matrix.specs.Directions.{Toward}
+use Rattle.compass.specs.Directions.{Toward}
 use Rattle.pair.specs.declared.Answer.{Answer}
 
 pub record Answered (first second : Region) : Type 0 where

@@ -3,7 +3,7 @@ ghost use mathlib.Core.Path.{_≡_};
 ghost use Rattle.outline.specs.Region.{regionOf};
 ghost use Rattle.outline.specs.Rules.{Keeps};
 ghost use Rattle.pair.specs.Answer.{refusedWith, orRefused, given, answerOf, pairOf, aroundOf, reportWords};
-use matrix::directions_of;
+use compass::directions_of;
 use matrix::flat_of;
 use matrix::grid_of;
 use matrix::matrix_of;

@@ -18,7 +18,7 @@ use Rattle.outline.specs.Rules.{KeepsRules}
 use Rattle.outline.proofs.Keeps.{keeps-fewer}
 use Rattle.relation.specs.Relation.{RegionBox, RegionHas, regionBox, relationOf}
 use Rattle.relation.proofs.Relation.{relation-tile}
-use Rattle.matrix.specs.Directions.{opposite}
+use Rattle.compass.specs.Directions.{opposite}
 use Rattle.pair.specs.Answer.{pairOf}
 use Rattle.pair.proofs.Directions.{directions-turned}
 use Rattle.layout.specs.Sheet.{Sheet, slots}

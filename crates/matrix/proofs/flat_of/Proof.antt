@@ -3,8 +3,7 @@ use Prim.Native.Nat.{ℕ, _≤_, _<_, _-_, _/_, _%_}
 use native.Mathlib.Omega.{arith}
 use lib.ListN.{length, getD, length-set}
 use Rattle.plane.proofs.Lists.{tab-more, tab-all}
-use Rattle.matrix.specs.Matrix.{flatOf}
-use Rattle.matrix.specs.Directions.{valueAt}
+use Rattle.matrix.specs.Matrix.{flatOf, valueAt}
 use borrow.Author.Needs.{needs}
 use Rattle.matrix.proofs.flat_of.Statement.{statement}
 use Rattle.matrix.proofs.flat_of.Tie as tie

@@ -1,15 +1,16 @@
-// The direction of one cell of a matrix from the others.
+// The directions of a matrix: where on the compass the cells holding the first region lie from those holding the second.
 ghost use mathlib.Core.Path.{_≡_};
 ghost use mathlib.Core.Bool.{_||_};
 ghost use Prim.Native.Nat.{_/_, _%_, _≤_, _<_};
 ghost use lib.Dec.{eqb};
 ghost use Rattle.plane.specs.TileSet.{setOf};
-ghost use Rattle.matrix.specs.Directions.{valueAt, sideOf, compassPlace};
-ghost use Rattle.matrix.specs.FromCells.{lies, starts};
-use crate::BOTH;
-use crate::CELLS;
-use crate::FIRST;
-use crate::SECOND;
+ghost use Rattle.matrix.specs.Matrix.{valueAt};
+ghost use Rattle.compass.specs.Directions.{sideOf, compassPlace, directionsOf};
+ghost use Rattle.compass.specs.FromCells.{lies, starts};
+use matrix::BOTH;
+use matrix::CELLS;
+use matrix::FIRST;
+use matrix::SECOND;
 
 // Cell c, counted by row, holds the region whose own value is given.
 fn cell_holds(m: [[u8; 3]; 3], c: usize, own: u8) -> bool
@@ -57,7 +58,7 @@ fn direction_from(m: [[u8; 3]; 3], c: usize, d: usize) -> u16
 }
 
 // The directions of cell c from all cells: none where c does not hold the first region.
-pub fn directions_at(m: [[u8; 3]; 3], c: usize) -> u16
+fn directions_at(m: [[u8; 3]; 3], c: usize) -> u16
     requires { ⌜ c < 9 ⌝ }
     ensures { λ r. ⌜ r ≡ setOf (starts m c) 9 ⌝ }
 {
@@ -69,6 +70,19 @@ pub fn directions_at(m: [[u8; 3]; 3], c: usize) -> u16
     while d < CELLS {
         r = r | direction_from(m, c, d);
         d += 1;
+    }
+    r
+}
+
+// The compass places of the cells holding the first region from the cells holding the second.
+pub fn directions_of(m: [[u8; 3]; 3]) -> u16
+    ensures { λ r. ⌜ r ≡ directionsOf m ⌝ }
+{
+    let mut r: u16 = 0;
+    let mut c: usize = 0;
+    while c < CELLS {
+        r = r | directions_at(m, c);
+        c += 1;
     }
     r
 }

@@ -1,7 +1,7 @@
 use borrow.Author.Tests.{eq-eqb, ne-eqb}
 use borrow.Author.Needs.{needs}
-use Rattle.matrix.proofs.compass.cell_holds.Statement.{statement}
-use Rattle.matrix.proofs.compass.cell_holds.Tie as tie
+use Rattle.compass.proofs.cell_holds.Statement.{statement}
+use Rattle.compass.proofs.cell_holds.Tie as tie
 
 mul-v : tie.Need-mul-v
 mul-v c = search needs

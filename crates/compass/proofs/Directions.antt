@@ -21,9 +21,9 @@ use Rattle.plane.specs.declared.Box.{Box}
 use Rattle.plane.proofs.Logic.{and-means, or-means, eq-means, both, iff-join, iff-turn, iff-and, iff-or}
 use Rattle.plane.proofs.Folds.{any-means}
 use Rattle.plane.proofs.TileSet.{set-means, set-bit, set-same}
-use Rattle.matrix.specs.Matrix.{matrixOf, exchanged}
-use Rattle.matrix.specs.Directions.{valueAt, HoldsFirst, HoldsSecond, Toward, Direction, sideOf, holdsFirst, holdsSecond, compassPlace, directed, directionsOf, opposite}
+use Rattle.matrix.specs.Matrix.{matrixOf, valueAt, exchanged}
+use Rattle.compass.specs.Directions.{HoldsFirst, HoldsSecond, Toward, Direction, sideOf, holdsFirst, holdsSecond, compassPlace, directed, directionsOf, opposite}
 use Rattle.matrix.proofs.Matrix.{value-at, matrix-exchanged}
 
 -- ---- sides
 side-means : (s i i' : ℕ) → s < 3 → (sideOf i i' ≡ s) ↔ Toward s i i'

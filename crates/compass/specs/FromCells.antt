@@ -6,7 +6,7 @@ use mathlib.Core.List.{List}
 use Prim.Native.Nat.{ℕ}
 use lib.Dec.{eqb}
 use Rattle.plane.specs.Folds.{anyTo}
-use Rattle.matrix.specs.Directions.{holdsFirst, holdsSecond, compassPlace}
+use Rattle.compass.specs.Directions.{holdsFirst, holdsSecond, compassPlace}
 
 abbrev pub lies : List (List ℕ) → (c d k : ℕ) → Bool
 lies m c d k = holdsSecond m d && eqb (compassPlace c d) k

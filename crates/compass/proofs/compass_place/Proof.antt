@@ -1,8 +1,8 @@
 use native.Mathlib.Omega.{arith}
-use Rattle.matrix.specs.Directions.{compassPlace}
+use Rattle.compass.specs.Directions.{compassPlace}
 use borrow.Author.Needs.{needs}
-use Rattle.matrix.proofs.compass.compass_place.Statement.{statement}
-use Rattle.matrix.proofs.compass.compass_place.Tie as tie
+use Rattle.compass.proofs.compass_place.Statement.{statement}
+use Rattle.compass.proofs.compass_place.Tie as tie
 
 side-of-requires : tie.Need-side-of-requires
 side-of-requires c κs = search needs

@@ -4,11 +4,11 @@ use Prim.Native.Nat.{ℕ}
 use borrow.Author.Tests.{not-true, not-false}
 use lib.Dec.{eqb}
 use Rattle.plane.specs.TileSet.{setOf}
-use Rattle.matrix.specs.Directions.{holdsSecond, compassPlace}
-use Rattle.matrix.proofs.DirectionSets.{one-bit, when-not, when-so}
+use Rattle.compass.specs.Directions.{holdsSecond, compassPlace}
+use Rattle.compass.proofs.DirectionSets.{one-bit, when-not, when-so}
 use borrow.Author.Needs.{needs}
-use Rattle.matrix.proofs.compass.direction_from.Statement.{statement}
-use Rattle.matrix.proofs.compass.direction_from.Tie as tie
+use Rattle.compass.proofs.direction_from.Statement.{statement}
+use Rattle.compass.proofs.direction_from.Tie as tie
 
 cell-holds-requires : tie.Need-cell-holds-requires
 cell-holds-requires c κs = search needs

@@ -4,12 +4,12 @@ use Prim.Native.Nat.{ℕ, _≤_, _-_}
 use native.Mathlib.Omega.{arith}
 use borrow.Author.Tests.{not-true, not-false}
 use Rattle.plane.specs.TileSet.{setOf}
-use Rattle.matrix.specs.Directions.{holdsFirst}
-use Rattle.matrix.specs.FromCells.{lies}
-use Rattle.matrix.proofs.DirectionSets.{when-not, when-so, among, union-none, union-more}
+use Rattle.compass.specs.Directions.{holdsFirst}
+use Rattle.compass.specs.FromCells.{lies}
+use Rattle.compass.proofs.DirectionSets.{when-not, when-so, among, union-none, union-more}
 use borrow.Author.Needs.{needs}
-use Rattle.matrix.proofs.compass.directions_at.Statement.{statement}
-use Rattle.matrix.proofs.compass.directions_at.Tie as tie
+use Rattle.compass.proofs.directions_at.Statement.{statement}
+use Rattle.compass.proofs.directions_at.Tie as tie
 
 abbrev Inv-loop : tie.InvT-loop
 Inv-loop m c r₀ d₀ r d = (d ≤ 9) × (r ≡ setOf (among (lies m c) d) 9)

@@ -2,12 +2,12 @@ use mathlib.Core.Path.{_≡_, _∙_, ap}
 use Prim.Native.Nat.{ℕ, _≤_, _-_}
 use native.Mathlib.Omega.{arith}
 use Rattle.plane.specs.TileSet.{setOf}
-use Rattle.matrix.specs.Directions.{directed, directionsOf}
-use Rattle.matrix.specs.FromCells.{starts}
-use Rattle.matrix.proofs.DirectionSets.{among, union-none, union-more}
+use Rattle.compass.specs.Directions.{directed, directionsOf}
+use Rattle.compass.specs.FromCells.{starts}
+use Rattle.compass.proofs.DirectionSets.{among, union-none, union-more}
 use borrow.Author.Needs.{needs}
-use Rattle.matrix.proofs.directions_of.Statement.{statement}
-use Rattle.matrix.proofs.directions_of.Tie as tie
+use Rattle.compass.proofs.directions_of.Statement.{statement}
+use Rattle.compass.proofs.directions_of.Tie as tie
 
 abbrev Inv-loop : tie.InvT-loop
 Inv-loop m r₀ c₀ r c = (c ≤ 9) × (r ≡ setOf (among (starts m) c) 9)

@@ -1,6 +1,5 @@
 -- SCOPE 5.4, 4.1: where on the compass the cells that hold a lie, seen from those that hold b. A cell may hold both: that is O, bit 4. Any
 -- three by three array is read; a value other than 1, 2 and 3 holds nothing.
---   valueAt m i j          the value in row i from the north and column j from the west
 --   HoldsFirst, HoldsSecond     the cell holds a (value 1 or 3), holds b (value 2 or 3)
 --   Toward s i i'          number i lies on side s of number i': 0 before it, 1 with it, 2 after it
 --   Direction m k          some cell holding a lies in direction k from some cell holding b
@@ -12,16 +11,13 @@
 use mathlib.Core.Path.{_≡_}
 use mathlib.Core.Logic.{_⊎_}
 use mathlib.Core.Bool.{Bool, _&&_, _||_}
-use mathlib.Core.List.{List, []}
+use mathlib.Core.List.{List}
 use Prim.Native.Nat.{ℕ, zero, suc, _+_, _-_, _*_, _/_, _%_, _<_}
 use lib.Dec.{ltb, eqb}
-use lib.ListN.{getD}
 use Rattle.plane.specs.Choice.{pick}
 use Rattle.plane.specs.Folds.{anyTo}
 use Rattle.plane.specs.TileSet.{setOf, bit}
-
-abbrev pub valueAt : List (List ℕ) → (i j : ℕ) → ℕ
-valueAt m i j = getD (getD m i []) j 0
+use Rattle.matrix.specs.Matrix.{valueAt}
 
 abbrev pub HoldsFirst : List (List ℕ) → (i j : ℕ) → Type 0
 HoldsFirst m i j = (valueAt m i j ≡ 1) ⊎ (valueAt m i j ≡ 3)

@@ -1,8 +1,8 @@
 use native.Mathlib.Omega.{arith}
-use Rattle.matrix.specs.Directions.{sideOf}
+use Rattle.compass.specs.Directions.{sideOf}
 use borrow.Author.Tests.{lt-ltb, le-ltb, eq-eqb, ne-eqb}
-use Rattle.matrix.proofs.compass.side_of.Statement.{statement}
-use Rattle.matrix.proofs.compass.side_of.Tie as tie
+use Rattle.compass.proofs.side_of.Statement.{statement}
+use Rattle.compass.proofs.side_of.Tie as tie
 
 returns : tie.Need-returns
 unfolding sideOf

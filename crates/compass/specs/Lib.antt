@@ -1,0 +1,2 @@
+pub mod Directions
+pub mod FromCells
