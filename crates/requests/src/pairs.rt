@@ -62,5 +62,5 @@ pub fn tiles_reply(line: &[u8], from: usize) -> Reply {
     let Natural::Is { value, next: _ } = number else {
         return Reply::Bad;
     };
-    Reply::Number(sheet::tiles(value))
+    Reply::Number(reading::tiles(value))
 }

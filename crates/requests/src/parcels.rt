@@ -4,7 +4,7 @@ use crate::answers;
 use crate::fronts;
 use crate::outlines;
 use crate::outlines::Outline;
-use sheet::Reading;
+use calls::Reading;
 use words::Natural;
 
 pub fn put_reply(
@@ -87,7 +87,7 @@ pub fn cell_reply(line: &[u8], from: usize, records: &[u16], relations: &[u16]) 
     else {
         return Reply::Bad;
     };
-    let reading = sheet::read_cell(records, relations, primary, reference);
+    let reading = reading::read_cell(records, relations, primary, reference);
     match reading {
         Reading::Relation(relation) => Reply::Numbers(0, relation),
         Reading::Refused(number) => Reply::Numbers(number, 0),
@@ -106,7 +106,7 @@ pub fn row_reply(
     let Natural::Is { value, next: _ } = number else {
         return Reply::Bad;
     };
-    let cells = sheet::row(records, relations, value);
+    let cells = reading::row(records, relations, value);
     let next = words::put_natural(out, at, cells.len() as u64);
     Reply::Upto(answers::put_numbers(out, next, cells))
 }

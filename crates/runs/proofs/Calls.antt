@@ -20,10 +20,10 @@ use Rattle.layout.specs.Slots.{parcelAt}
 use Rattle.layout.specs.Damage.{Undamaged}
 use Rattle.layout.specs.Changes.{Changeable}
 use Rattle.layout.proofs.Standing.{stand-fewer, layout-lists, layout-undamaged, layout-parcel}
-use Rattle.sheet.specs.Changes as Changes
-use Rattle.sheet.specs.Says.{put-done, RemoveSays, remove-done, remove-refused, remove-empty, clear-done}
-use Rattle.sheet.proofs.Numbers.{put-ready, put-keeps}
-use Rattle.sheet.proofs.Says.{unchangeable-not, put-says, remove-says, clear-says}
+use Rattle.calls.specs.Changes as Changes
+use Rattle.calls.specs.Says.{put-done, RemoveSays, remove-done, remove-refused, remove-empty, clear-done}
+use Rattle.calls.proofs.Numbers.{put-ready, put-keeps}
+use Rattle.calls.proofs.Says.{unchangeable-not, put-says, remove-says, clear-says}
 use Rattle.card.specs.Good.{GoodCard}
 use Rattle.transfer.proofs.Loads.{loads-exactly}
 use Rattle.runs.specs.Runs.{Call, put, remove, clear, load, afterCall, callNumber, afterRun, AcceptedPut, Stands, standing, fresh}

@@ -24,13 +24,13 @@ use Rattle.layout.specs.Standing.{occupied}
 use Rattle.layout.specs.Layout.{selfCell}
 use Rattle.layout.specs.Slots.{ringsIn, emptyIn, cellIn}
 use Rattle.layout.proofs.Standing.{stand-fewer, layout-empty}
-use Rattle.sheet.specs.declared.Reading.{Reading}
-use Rattle.sheet.specs.declared.Reading.the-variants.{Relation, Refused}
-use Rattle.sheet.specs.Readings.{readingNumber, readingValue}
-use Rattle.sheet.specs.Says.{Readable, ReadSays, read-done, read-lists, read-slot, read-empty}
-use Rattle.sheet.proofs.Call as call
-use Rattle.sheet.proofs.read_cell.Reads as read-reads
-use Rattle.sheet.proofs.row.Reads as row-reads
+use Rattle.calls.specs.declared.Reading.{Reading}
+use Rattle.calls.specs.declared.Reading.the-variants.{Relation, Refused}
+use Rattle.calls.specs.Readings.{readingNumber, readingValue}
+use Rattle.calls.specs.Says.{Readable, ReadSays, read-done, read-lists, read-slot, read-empty}
+use Rattle.reading.proofs.Call as call
+use Rattle.reading.proofs.read_cell.Reads as read-reads
+use Rattle.reading.proofs.row.Reads as row-reads
 use Rattle.runs.specs.Runs.{Call, afterRun, Stands, standing}
 use Rattle.runs.specs.Code.{Ran}
 use Rattle.runs.proofs.Runs.{standing-together, standing-means, stands-slot}

@@ -25,8 +25,8 @@ use Rattle.layout.specs.Layout.{layout, blank}
 use Rattle.layout.proofs.RightLists.{lists-mean}
 use Rattle.layout.proofs.Standing.{stand-fewer, stand-instead, stand-same, layout-lists, layout-same}
 use Rattle.layout.proofs.Blank.{blank-layout}
-use Rattle.sheet.specs.Changes as Changes
-use Rattle.sheet.proofs.Layouts as Layouts
+use Rattle.calls.specs.Changes as Changes
+use Rattle.calls.proofs.Layouts as Layouts
 use Rattle.card.specs.Reading.{parcelCount, slotAt, regionAt, entryOf, parcelIn}
 use Rattle.card.specs.CardNumber.{cardNumber}
 use Rattle.card.specs.Good.{GoodCard}

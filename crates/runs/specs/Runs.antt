@@ -25,7 +25,7 @@ use Rattle.outline.specs.Check.{checkOf, numberOf}
 use Rattle.layout.specs.Sheet.{Sheet, slots}
 use Rattle.layout.specs.Standing.{instead}
 use Rattle.layout.specs.Layout.{blank}
-use Rattle.sheet.specs.Changes as Changes
+use Rattle.calls.specs.Changes as Changes
 use Rattle.card.specs.Reading.{parcelIn}
 use Rattle.card.specs.Good.{GoodCard}
 use Rattle.card.specs.CardNumber.{cardNumber}

@@ -1,7 +1,7 @@
--- What each call on a sheet answers and leaves, from the call's own contract (`Post`, which the checker generates from the source). Of a call's
--- arguments `before` is the sheet at entry and `after` the sheet at exit.
+-- What each call that changes a sheet answers and leaves, from the call's own contract (`Post`, which the checker generates from the source). Of a
+-- call's arguments `before` is the sheet at entry and `after` the sheet at exit. The cases are those of calls/specs/Says.
 -- A put of the region R into a slot:
---   put-means            it answers n exactly when case n of specs/Says holds;  put-either  which numbers these are, and no others
+--   put-means            it answers n exactly when case n holds;  put-either  which numbers these are, and no others
 --   put-kept             beside a number that is not 0 the sheet is as it was found
 --   put-stands           where it answers 0, R stands in the slot, and in every other slot what stood there, whoever wrote it
 --   put-row, put-column  a tile is then in the cell of the slot and another one, and the other way round, exactly when the rule finds it
@@ -11,17 +11,9 @@
 --   remove-stands, remove-cells    where it answers 0, nothing stands in the slot, and its cells are 0
 -- A clearing:
 --   clear-means, clear-either, clear-kept    the same;  clear-blank  where it answers 0, every number is 0
--- A reading of a cell, of any two lists:
---   reading-means        its number is n exactly when case n of specs/Says holds;  reading-either  which these are
---   reading-there        where that is 0, it answers the cell as it stands;  reading-refused  else the number
--- A row:
---   row-there            where the cell of the slot with itself may be read, number k of the row is the cell of the slot and slot k, for each slot
---   row-refused          else there is none
 use mathlib.Core.Path.{_≡_, refl, sym, _∙_, ap}
 use mathlib.Core.Logic.{_↔_, _⊎_, _≢_, inl, inr}
-use mathlib.Core.List.{List, []}
 use Prim.Native.Nat.{ℕ, _≤_, _<_}
-use lib.ListN.{length, getD}
 use borrow.Author.Tests.{eq-eqb, ne-eqb}
 use Rattle.plane.specs.Points.{Lines}
 use Rattle.plane.specs.TileSet.{bit}
@@ -31,28 +23,20 @@ use Rattle.relation.specs.Relation.{RegionBox, RegionHas}
 use Rattle.layout.specs.Sheet.{Sheet, sheetOf, slots}
 use Rattle.layout.specs.Standing.{instead}
 use Rattle.layout.specs.Layout.{selfCell, blank}
-use Rattle.layout.specs.Slots.{parcelAt, cellIn, rowIn}
+use Rattle.layout.specs.Slots.{parcelAt, cellIn}
 use Rattle.layout.specs.Changes.{withParcel, TouchesOnly}
 use Rattle.layout.specs.Steps.{Ready}
 use Rattle.layout.proofs.Written.{parcel-standing}
 use Rattle.layout.proofs.Renewed.{row-tile, column-tile, row-bare, column-bare, self-renewed, row-removed, column-removed}
-use Rattle.layout.proofs.Rows.{row-cell}
-use Rattle.sheet.specs.declared.Reading.{Reading}
-use Rattle.sheet.specs.declared.Reading.the-variants.{Relation, Refused}
-use Rattle.sheet.specs.Changes.{putNumber, removeNumber, clearNumber, clear}
-use Rattle.sheet.specs.Readings.{readNumber, readingOf, readingNumber, rowOf}
-use Rattle.sheet.specs.Says.{PutSays, put-done, put-refused, put-broken, RemoveSays, remove-done, remove-refused, remove-empty, ClearSays, clear-done, clear-refused}
-use Rattle.sheet.specs.Says.{Readable, ReadSays, read-done, read-lists, read-slot, read-empty}
-use Rattle.sheet.proofs.Numbers as numbers
-use Rattle.sheet.proofs.Numbers.{put-ready, put-is, remove-ready}
-use Rattle.sheet.proofs.Frame.{put-touches, remove-touches}
-use Rattle.sheet.proofs.Readings.{read-means, row-full, row-empty}
-use Rattle.sheet.proofs.Says.{unchangeable-either, put-says, remove-says, clear-says, read-says}
+use Rattle.calls.specs.Changes.{putNumber, removeNumber, clearNumber, clear}
+use Rattle.calls.specs.Says.{PutSays, put-done, put-refused, put-broken, RemoveSays, remove-done, remove-refused, remove-empty, ClearSays, clear-done, clear-refused}
+use Rattle.calls.proofs.Numbers as numbers
+use Rattle.calls.proofs.Numbers.{put-ready, put-is, remove-ready}
+use Rattle.calls.proofs.Frame.{put-touches, remove-touches}
+use Rattle.calls.proofs.Says.{unchangeable-either, put-says, remove-says, clear-says}
 use Rattle.sheet.proofs.put.Reads as put-reads
 use Rattle.sheet.proofs.remove.Reads as remove-reads
 use Rattle.sheet.proofs.clear.Reads as clear-reads
-use Rattle.sheet.proofs.read_cell.Reads as read-reads
-use Rattle.sheet.proofs.row.Reads as row-reads
 
 -- ---- a put
 module _ (κs : _) (a : _) (n : ℕ) (e : _) (post : put-reads.Post κs a n e) where
@@ -190,63 +174,3 @@ module _ (κs : _) (a : _) (n : ℕ) (e : _) (post : clear-reads.Post κs a n e)
   pub clear-blank : n ≡ 0 → clear-after ≡ blank
   unfolding clear
   clear-blank done = post .1 ∙ simp (eq-eqb (clearNumber clear-before) 0 (sym (post .0) ∙ done))
-
--- ---- a reading
-module _ (κs : _) (a : _) (r : Reading) (e : _) (post : read-reads.Post κs a r e) where
-  abbrev read-records : List ℕ
-  read-records = a .0 .now
-
-  abbrev read-relations : List ℕ
-  read-relations = a .1 .0 .now
-
-  abbrev primary : ℕ
-  primary = a .1 .1 .0
-
-  abbrev reference : ℕ
-  reference = a .1 .1 .1 .0
-
-  pub reading-means : (n : ℕ) → (readingNumber r ≡ n) ↔ ReadSays read-records read-relations primary reference n
-  reading-means n = rw (post .1 .0) (read-says read-records read-relations primary reference n)
-
-  pub reading-either : (readingNumber r ≡ 0) ⊎ ((readingNumber r ≡ 11) ⊎ ((readingNumber r ≡ 8) ⊎ (readingNumber r ≡ 9)))
-  reading-either = go (reading-means (readingNumber r) .0 refl)
-    where
-      go : {m : ℕ} → ReadSays read-records read-relations primary reference m → (m ≡ 0) ⊎ ((m ≡ 11) ⊎ ((m ≡ 8) ⊎ (m ≡ 9)))
-      go (read-done h) = inl refl
-      go (read-lists w) = inr (inl refl)
-      go (read-slot right l) = inr (inr (inl refl))
-      go (read-empty right hi hj none) = inr (inr (inr refl))
-
-  pub reading-there : Readable read-records read-relations primary reference → r ≡ Relation (cellIn read-relations primary reference)
-  unfolding readingOf
-  reading-there h = post .0 ∙ simp (eq-eqb (readNumber read-records read-relations primary reference) 0 (read-means _ _ _ _ .1 h))
-
-  pub reading-refused : (n : ℕ) → n ≢ 0 → ReadSays read-records read-relations primary reference n → r ≡ Refused n
-  unfolding readingOf
-  reading-refused n some h =
-      let z = read-says read-records read-relations primary reference n .1 h in
-      post .0 ∙ simp (ne-eqb (readNumber read-records read-relations primary reference) 0 (λ q. some (sym z ∙ q))) (ap Refused z)
-
--- ---- a row
-module _ (κs : _) (a : _) (r : _) (e : _) (post : row-reads.Post κs a r e) where
-  abbrev row-records : List ℕ
-  row-records = a .0 .now
-
-  abbrev row-relations : List ℕ
-  row-relations = a .1 .0 .now
-
-  abbrev row-slot : ℕ
-  row-slot = a .1 .1 .0
-
-  pub row-there : Readable row-records row-relations row-slot row-slot
-      → (length (r .now) ≡ slots) × ((k : ℕ) → k < slots → getD (r .now) k 0 ≡ cellIn row-relations row-slot k)
-  unfolding rowOf
-  row-there h =
-      let z = read-means row-records row-relations row-slot row-slot .1 h in
-      let is : r .now ≡ rowIn row-relations row-slot = post .0 ∙ simp (eq-eqb (readNumber row-records row-relations row-slot row-slot) 0 z) in (
-        ap length (post .0) ∙ row-full row-records row-relations row-slot z,
-        λ k l. ap (λ (c : List ℕ). getD c k 0) is ∙ row-cell row-relations row-slot k l,
-      )
-
-  pub row-refused : (Readable row-records row-relations row-slot row-slot → ⊥) → r .now ≡ []
-  row-refused h = post .0 ∙ row-empty row-records row-relations row-slot (λ z. h (read-means row-records row-relations row-slot row-slot .0 z))

@@ -1,8 +1,2 @@
-pub mod Numbers
-pub mod Frame
-pub mod Readings
-pub mod Orders
-pub mod Says
-pub mod Layouts
 pub mod Only
 pub mod Call

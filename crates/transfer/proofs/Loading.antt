@@ -29,7 +29,7 @@ use Rattle.layout.specs.BoxList.{boxesLength, Boxed}
 use Rattle.layout.proofs.Standing.{stand-fewer, layout-lists, layout-same, layout-parcel, layout-undamaged, layout-with}
 use Rattle.layout.proofs.Blank.{blank-layout}
 use Rattle.layout.proofs.BoxList.{boxed-empty}
-use Rattle.sheet.specs.Changes.{clear, clearNumber}
+use Rattle.calls.specs.Changes.{clear, clearNumber}
 use Rattle.card.specs.Reading.{parcelCount, slotAt, regionAt, entryOf, parcelIn}
 use Rattle.card.specs.CardNumber.{cardNumber}
 use Rattle.card.specs.Good.{GoodCard}

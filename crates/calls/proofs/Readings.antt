@@ -1,10 +1,11 @@
 -- Laws of the readings.
 --   read-is         the number, by the tests that decide it
 --   read-means      a cell is read exactly where the two lists have their lengths, there are such slots, and neither is empty
---   row-full, row-empty    the row has a cell for each slot where no number applies, and none where one does
+--   cell-answered, number-answered    what reading a cell answers: the cell as it stands where it may be read, else the number
+--   row-full, row-cells, row-empty    the row has a cell for each slot where no number applies, its own, and none where one does
 --   bits-ones       the set digits of n % 2 ^ w are the bits of n below w
 use mathlib.Core.Path.{_≡_, refl, sym, ap, _∙_}
-use mathlib.Core.Logic.{_↔_, inl, inr, ⊎-elim}
+use mathlib.Core.Logic.{_↔_, _≢_, inl, inr, ⊎-elim}
 use mathlib.Core.Bool.{Bool, false, _||_}
 use mathlib.Core.List.{List, []}
 use Prim.Native.Nat.{ℕ, zero, suc, _+_, _/_, _%_, _^_, _<_, _≤_}
@@ -13,7 +14,7 @@ use native.Mathlib.Numerals.{one-add}
 use native.Mathlib.Nat.{mod-lt, add-comm, not-suc-le-zero, le-of-suc-le-suc}
 use lib.Count.{ones, ones-cat}
 use lib.Dec.{ltb, lit<}
-use lib.ListN.{length}
+use lib.ListN.{length, getD}
 use lib.Pow.{mod-pow-add, pow-pos}
 use borrow.Author.Tests.{ltb-false, le-ltb, eqb-false, eq-eqb, ne-eqb}
 use Rattle.plane.specs.Folds.{sumTo}
@@ -22,11 +23,12 @@ use Rattle.plane.proofs.Logic.{clash, is-false, or-means}
 use Rattle.outline.specs.Refusals.{numberIf, orElse, slot-number, slot-empty, sheet-lists}
 use Rattle.outline.proofs.OrElse.{or-else-none, number-if-none}
 use Rattle.layout.specs.Sheet.{slots, lastSlot, wrongTables}
-use Rattle.layout.specs.Slots.{ringsIn, emptyIn}
+use Rattle.layout.specs.Slots.{ringsIn, emptyIn, cellIn}
 use Rattle.layout.proofs.RightLists.{tables-mean}
-use Rattle.layout.proofs.Rows.{row-length}
-use Rattle.sheet.specs.Readings.{readNumber, rowOf}
-use Rattle.sheet.specs.Says.{Readable}
+use Rattle.layout.proofs.Rows.{row-length, row-cell}
+use Rattle.calls.specs.declared.Reading.the-variants.{Relation, Refused}
+use Rattle.calls.specs.Readings.{readNumber, readingOf, rowOf}
+use Rattle.calls.specs.Says.{Readable}
 
 -- ---- the number
 neither : (a b : Bool) → (a || b ≡ false) ↔ ((a ≡ false) × (b ≡ false))
@@ -75,6 +77,16 @@ module _ (records relations : List ℕ) (i j : ℕ) where
   unfolding readNumber
   read-is a b d e f ea eb ed ee ef = rw (ea, eb, ed, ee, ef) refl
 
+-- ---- the answer
+module _ (records relations : List ℕ) (i j : ℕ) where
+  pub cell-answered : Readable records relations i j → readingOf records relations i j ≡ Relation (cellIn relations i j)
+  unfolding readingOf
+  cell-answered h = simp (eq-eqb (readNumber records relations i j) 0 (read-means records relations i j .1 h))
+
+  pub number-answered : (n : ℕ) → n ≢ 0 → readNumber records relations i j ≡ n → readingOf records relations i j ≡ Refused n
+  unfolding readingOf
+  number-answered n some z = simp (ne-eqb (readNumber records relations i j) 0 (λ q. some (sym z ∙ q))) (ap Refused z)
+
 -- ---- the row
 module _ (records relations : List ℕ) (i : ℕ) where
   pub row-full : readNumber records relations i i ≡ 0 → length (rowOf records relations i) ≡ slots
@@ -82,6 +94,10 @@ module _ (records relations : List ℕ) (i : ℕ) where
   row-full z =
       let h = read-means records relations i i .0 z in
       simp (eq-eqb (readNumber records relations i i) 0 z) (row-length records relations i (tables-mean records relations .1 (h .tables)) (h .primary))
+
+  pub row-cells : readNumber records relations i i ≡ 0 → (k : ℕ) → k < slots → getD (rowOf records relations i) k 0 ≡ cellIn relations i k
+  unfolding rowOf
+  row-cells z k l = simp (eq-eqb (readNumber records relations i i) 0 z) (row-cell relations i k l)
 
   pub row-empty : (readNumber records relations i i ≡ 0 → ⊥) → rowOf records relations i ≡ []
   unfolding rowOf

@@ -11,8 +11,8 @@ use Rattle.layout.specs.Sheet.{Sheet}
 use Rattle.layout.specs.Changes.{withParcel, TouchesOnly}
 use Rattle.layout.specs.Steps.{Ready}
 use Rattle.layout.proofs.Written.{touches-none, with-touches}
-use Rattle.sheet.specs.Changes.{putNumber, put, removeNumber, remove}
-use Rattle.sheet.proofs.Numbers.{put-ready, remove-ready}
+use Rattle.calls.specs.Changes.{putNumber, put, removeNumber, remove}
+use Rattle.calls.proofs.Numbers.{put-ready, remove-ready}
 
 module _ (s : Sheet) (i : ℕ) where
   -- a call that writes the parcel p where its number is 0

@@ -16,8 +16,8 @@ use Rattle.plane.specs.TileSet.{bit}
 use Rattle.outline.specs.Refusals.{numberIf, orElse, slot-number, slot-empty, sheet-lists}
 use Rattle.layout.specs.Sheet.{lastSlot, wrongTables}
 use Rattle.layout.specs.Slots.{emptyIn, cellIn, rowIn, rowPlace}
-use Rattle.sheet.specs.declared.Reading.{Reading}
-use Rattle.sheet.specs.declared.Reading.the-variants.{Relation, Refused}
+use Rattle.calls.specs.declared.Reading.{Reading}
+use Rattle.calls.specs.declared.Reading.the-variants.{Relation, Refused}
 
 unfoldable pub readNumber : List ℕ → List ℕ → (i j : ℕ) → ℕ
 readNumber records relations i j =

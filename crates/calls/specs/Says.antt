@@ -1,5 +1,5 @@
 -- SCOPE 7.6 and 7.7: what each number that a call on a sheet answers says; for each call its cases, one a number, and no others. That a call answers n
--- exactly when its case n holds: proofs/Call.
+-- exactly when its case n holds: sheet/proofs/Call and reading/proofs/Call.
 --   Unchangeable s i n       n refuses any change of slot i of the sheet s: 11, then 8, then 12
 --   PutSays s i R n          of a put of the region R into slot i: 0, one of these, or the lowest of 1 to 7 that R breaks
 --   RemoveSays s i n         of a removal from slot i: 0, one of these, or 9

@@ -15,8 +15,8 @@ use Rattle.layout.specs.Sheet.{Sheet, lastSlot, wrongTables, wrongLists}
 use Rattle.layout.specs.Slots.{emptyIn}
 use Rattle.layout.specs.Damage.{damaged}
 use Rattle.layout.specs.Changes.{changeNumber}
-use Rattle.sheet.specs.Changes.{putNumber, removeNumber}
-use Rattle.sheet.specs.Readings.{readNumber}
+use Rattle.calls.specs.Changes.{putNumber, removeNumber}
+use Rattle.calls.specs.Readings.{readNumber}
 
 -- 11, 8 and 12, and then n
 change-then : (a b d : Bool) (n : ℕ) → orElse (orElse (numberIf a sheet-lists) (orElse (numberIf b slot-number) (numberIf d sheet-damaged))) n

@@ -23,7 +23,7 @@ use Rattle.layout.specs.Changes.{withParcel, changeNumber}
 use Rattle.layout.specs.Steps.{Ready, parcelOf}
 use Rattle.layout.proofs.Refusing.{change-means}
 use Rattle.layout.proofs.Steps.{outline-parcel}
-use Rattle.sheet.specs.Changes.{putNumber, put, removeNumber, remove, clearNumber, clear}
+use Rattle.calls.specs.Changes.{putNumber, put, removeNumber, remove, clearNumber, clear}
 
 -- ---- a put
 module _ (s : Sheet) (i : ℕ) (R : Region) where

@@ -28,11 +28,11 @@ use Rattle.layout.proofs.RightLists.{tables-mean, lists-mean}
 use Rattle.layout.proofs.Undamaged.{undamaged-means}
 use Rattle.layout.proofs.Slots.{parcel-empty, parcel-there}
 use Rattle.layout.proofs.Refusing.{change-means, change-is}
-use Rattle.sheet.specs.Changes.{putNumber, removeNumber, clearNumber}
-use Rattle.sheet.specs.Readings.{readNumber}
-use Rattle.sheet.specs.Says.{Unchangeable, lists-wrong, slot-past, damage-there, PutSays, put-done, put-refused, put-broken, RemoveSays, remove-done, remove-refused, remove-empty, ClearSays, clear-done, clear-refused, ReadSays, read-done, read-lists, read-slot, read-empty}
-use Rattle.sheet.proofs.Numbers.{put-first, put-next, remove-first, remove-next}
-use Rattle.sheet.proofs.Readings.{read-means}
+use Rattle.calls.specs.Changes.{putNumber, removeNumber, clearNumber}
+use Rattle.calls.specs.Readings.{readNumber}
+use Rattle.calls.specs.Says.{Unchangeable, lists-wrong, slot-past, damage-there, PutSays, put-done, put-refused, put-broken, RemoveSays, remove-done, remove-refused, remove-empty, ClearSays, clear-done, clear-refused, ReadSays, read-done, read-lists, read-slot, read-empty}
+use Rattle.calls.proofs.Numbers.{put-first, put-next, remove-first, remove-next}
+use Rattle.calls.proofs.Readings.{read-means}
 
 -- ---- 11, 8 and 12
 module _ (s : Sheet) (i : ℕ) where

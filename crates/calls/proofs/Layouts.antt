@@ -21,8 +21,8 @@ use Rattle.layout.proofs.RightLists.{lists-mean}
 use Rattle.layout.proofs.Refusing.{change-means}
 use Rattle.layout.proofs.Standing.{layout-lists, layout-empty, layout-undamaged, layout-with, layout-same}
 use Rattle.layout.proofs.Blank.{blank-layout}
-use Rattle.sheet.specs.Changes.{putNumber, put, removeNumber, remove, clearNumber, clear}
-use Rattle.sheet.proofs.Numbers.{put-next, put-keeps, put-ready, put-is, put-refused, remove-next, remove-ready, remove-refused, remove-done}
+use Rattle.calls.specs.Changes.{putNumber, put, removeNumber, remove, clearNumber, clear}
+use Rattle.calls.proofs.Numbers.{put-next, put-keeps, put-ready, put-is, put-refused, remove-next, remove-ready, remove-refused, remove-done}
 
 module _ (st : ℕ → Parcel) (stand : StandTogether 4 st) where
   -- ---- 11, 8 and 12

@@ -1,0 +1,6 @@
+pub mod Numbers
+pub mod Frame
+pub mod Readings
+pub mod Orders
+pub mod Says
+pub mod Layouts
