@@ -22,7 +22,7 @@ pub fn load_reply(
         return Reply::Bad;
     };
     let card = fronts::bytes(&bytes, count);
-    Reply::Number(transfer::load(xs, records, relations, card))
+    Reply::Number(loading::load(xs, records, relations, card))
 }
 
 pub fn write_reply(
@@ -55,7 +55,7 @@ fn write_card(
     relations: &[u16],
     buffer: &mut [u8],
 ) -> Reply {
-    let written = transfer::write(xs, records, relations, buffer);
+    let written = writing::write(xs, records, relations, buffer);
     let next = words::put_natural(out, at, written.number as u64);
     let next = answers::put_number(out, next, written.length as u64);
     Reply::Upto(answers::put_bytes(out, next, buffer))

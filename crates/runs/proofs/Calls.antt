@@ -25,7 +25,7 @@ use Rattle.calls.specs.Says.{put-done, RemoveSays, remove-done, remove-refused,
 use Rattle.calls.proofs.Numbers.{put-ready, put-keeps}
 use Rattle.calls.proofs.Says.{unchangeable-not, put-says, remove-says, clear-says}
 use Rattle.card.specs.Good.{GoodCard}
-use Rattle.transfer.proofs.Loads.{loads-exactly}
+use Rattle.loading.proofs.Loads.{loads-exactly}
 use Rattle.runs.specs.Runs.{Call, put, remove, clear, load, afterCall, callNumber, afterRun, AcceptedPut, Stands, standing, fresh}
 use Rattle.runs.specs.Code.{Called, put-called, remove-called, clear-called, load-called, Ran, all-zero, cleared, and-then}
 use Rattle.runs.proofs.Runs.{standing-together, run-layout, run-fresh, standing-means, stands-slot}

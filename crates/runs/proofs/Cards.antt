@@ -18,11 +18,11 @@ use Rattle.card.specs.Reading.{parcelIn}
 use Rattle.card.specs.CardNumber.{cardNumber}
 use Rattle.card.specs.Good.{GoodCard}
 use Rattle.card.proofs.Good.{good-means}
-use Rattle.transfer.specs.Load as Load
-use Rattle.transfer.specs.Load.{loadNumber}
-use Rattle.transfer.specs.Write.{cardOf}
-use Rattle.transfer.proofs.Loading.{good-stands}
-use Rattle.transfer.proofs.Lengths.{card-same}
+use Rattle.loading.specs.Load as Load
+use Rattle.loading.specs.Load.{loadNumber}
+use Rattle.writing.specs.Write.{cardOf}
+use Rattle.loading.proofs.Loading.{good-stands}
+use Rattle.writing.proofs.Lengths.{card-same}
 use Rattle.runs.specs.Runs.{Call, afterRun, standing}
 use Rattle.runs.proofs.RoundTrip.{written-parcel, written-good}
 use Rattle.runs.proofs.LoadedCard.{one-form}

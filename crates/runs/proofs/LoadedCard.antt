@@ -29,8 +29,8 @@ use Rattle.card.specs.Reading.{parcelCount, ringCount, vertexCount, slotAt, cou
 use Rattle.card.specs.Good.{GoodCard}
 use Rattle.card.proofs.Good.{slots-rise}
 use Rattle.card.proofs.Bounds.{length-ends}
-use Rattle.transfer.specs.Write.{headerOf, entryBytes, entryPart, endPart, vertexPart, cardOf}
-use Rattle.transfer.proofs.Lengths.{entries-length, ends-length, vertices-length, written-length}
+use Rattle.writing.specs.Write.{headerOf, entryBytes, entryPart, endPart, vertexPart, cardOf}
+use Rattle.writing.proofs.Lengths.{entries-length, ends-length, vertices-length, written-length}
 use Rattle.endian.proofs.Held.{Held, held-append, join-held, held-u16, held-i32}
 
 plus-none : (a : ℕ) → a + 0 ≡ a

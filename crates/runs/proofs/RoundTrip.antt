@@ -21,8 +21,8 @@ use Rattle.layout.specs.Standing.{occupied, StandTogether, parcelsBelow, ringsB
 use Rattle.card.specs.Layout.{parcelsAt, ringsAt, verticesAt}
 use Rattle.card.specs.Reading.{parcelCount, slotAt, countAt, firstRing, firstVertex, entryOf, parcelIn, endsAt, regionAt}
 use Rattle.card.specs.Good.{GoodCard}
-use Rattle.transfer.specs.Write.{cardOf}
-use Rattle.transfer.proofs.Lengths.{written-length}
+use Rattle.writing.specs.Write.{cardOf}
+use Rattle.writing.proofs.Lengths.{written-length}
 use Rattle.endian.proofs.Held.{u16-held}
 use Rattle.runs.proofs.WrittenCard.{B, parts, parcels-le, rings-le, vertices-le, parcels-read, rings-read, vertices-read, kept, size, slot-read, count-read, rings-before, vertices-before, region-read}
 

@@ -31,9 +31,9 @@ use Rattle.card.specs.Reading.{parcelCount, slotAt, regionAt, entryOf, parcelIn
 use Rattle.card.specs.CardNumber.{cardNumber}
 use Rattle.card.specs.Good.{GoodCard}
 use Rattle.card.proofs.Good.{good-means}
-use Rattle.transfer.specs.Load as Load
-use Rattle.transfer.specs.Load.{loadNumber}
-use Rattle.transfer.proofs.Loading.{good-stands}
+use Rattle.loading.specs.Load as Load
+use Rattle.loading.specs.Load.{loadNumber}
+use Rattle.loading.proofs.Loading.{good-stands}
 use Rattle.runs.specs.Runs.{Call, put, remove, clear, load, afterRun, AcceptedPut, Spares, put-elsewhere, put-refused, removed-elsewhere, load-refused, Stands, just-put, just-loaded, still, accepts, standing, putParcel, fresh}
 
 accepts-means : (i : ℕ) (R : Region) → (accepts i R ≡ true) ↔ AcceptedPut i R

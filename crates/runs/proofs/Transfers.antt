@@ -18,13 +18,14 @@ use Rattle.layout.proofs.RightLists.{lists-mean}
 use Rattle.layout.proofs.Standing.{stand-same, layout-same}
 use Rattle.card.specs.Reading.{parcelIn}
 use Rattle.card.specs.Good.{GoodCard}
-use Rattle.transfer.specs.declared.Written.{Written}
-use Rattle.transfer.specs.Write.{cardOf}
-use Rattle.transfer.specs.Says.{load-done}
-use Rattle.transfer.proofs.Loads.{loads-exactly}
-use Rattle.transfer.proofs.Call.{load-means, load-laid, write-bytes}
-use Rattle.transfer.proofs.load.Reads as load-reads
-use Rattle.transfer.proofs.write.Reads as write-reads
+use Rattle.writing.specs.declared.Written.{Written}
+use Rattle.writing.specs.Write.{cardOf}
+use Rattle.loading.specs.Says.{load-done}
+use Rattle.loading.proofs.Loads.{loads-exactly}
+use Rattle.loading.proofs.Call.{load-means, load-laid}
+use Rattle.writing.proofs.Call.{write-bytes}
+use Rattle.loading.proofs.load.Reads as load-reads
+use Rattle.writing.proofs.write.Reads as write-reads
 use Rattle.runs.specs.Runs.{Call, standing}
 use Rattle.runs.specs.Code.{Ran}
 use Rattle.runs.proofs.RoundTrip.{written-parcel, written-good}

@@ -28,8 +28,8 @@ use Rattle.endian.specs.Placed.{wordBytes, numberBytes}
 use Rattle.endian.proofs.Joined.{length-joined, sum-const}
 use Rattle.card.specs.Layout.{cardParcels, cardRings, cardVertices, parcelsAt, ringsAt, verticesAt}
 use Rattle.card.specs.Reading.{parcelCount, ringCount, vertexCount, slotAt, countAt, firstRing, endsAt, firstVertex, numbersAt, regionAt}
-use Rattle.transfer.specs.Write.{headerOf, entryBytes, entryPart, endPart, vertexPart, cardOf}
-use Rattle.transfer.proofs.Lengths.{entries-length, ends-length, vertices-length}
+use Rattle.writing.specs.Write.{headerOf, entryBytes, entryPart, endPart, vertexPart, cardOf}
+use Rattle.writing.proofs.Lengths.{entries-length, ends-length, vertices-length}
 use Rattle.endian.proofs.Held.{Held, held-whole, held-left, held-right, held-joined, u16-held, i32-held}
 
 -- every coordinate of an accepted outline is in range

@@ -11,7 +11,7 @@ use Rattle.layout.specs.Layout.{blank}
 use Rattle.sheet.proofs.put.Reads as put-reads
 use Rattle.sheet.proofs.remove.Reads as remove-reads
 use Rattle.sheet.proofs.clear.Reads as clear-reads
-use Rattle.transfer.proofs.load.Reads as load-reads
+use Rattle.loading.proofs.load.Reads as load-reads
 use Rattle.runs.specs.Runs.{Call, put, remove, clear, load}
 
 pub data Called : Call → Sheet → ℕ → Sheet → Type 0 where

@@ -29,7 +29,7 @@ use Rattle.calls.specs.Changes as Changes
 use Rattle.card.specs.Reading.{parcelIn}
 use Rattle.card.specs.Good.{GoodCard}
 use Rattle.card.specs.CardNumber.{cardNumber}
-use Rattle.transfer.specs.Load as Load
+use Rattle.loading.specs.Load as Load
 
 pub data Call : Type 0 where
   put : ℕ → Region → Call

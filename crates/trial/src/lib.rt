@@ -105,5 +105,5 @@ pub extern "C" fn trial_load(
     relations: &mut [u16],
     bytes: &[u8],
 ) -> u32 {
-    transfer::load(xs, records, relations, bytes) as u32
+    loading::load(xs, records, relations, bytes) as u32
 }

@@ -1,4 +1,0 @@
-pub mod Load
-pub mod Write
-pub mod Says
-pub mod Steps
