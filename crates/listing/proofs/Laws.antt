@@ -12,7 +12,7 @@ use lib.Seq.{take-all, length-take-le}
 use Rattle.card.specs.CardNumber.{wrongHeader, cardNumber}
 use Rattle.card.proofs.Tests.{header-means}
 use Rattle.card.proofs.Good.{card-header-wrong}
-use Rattle.listing.specs.Listing.{listing}
+use Rattle.lines.specs.Listing.{listing}
 
 pub long-refused : (b : List ℕ) → 17036 < length b → cardNumber b ≡ 14
 long-refused b l = sym (card-header-wrong b (go (wrongHeader b) refl))

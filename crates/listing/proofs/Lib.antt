@@ -1,9 +1,1 @@
-pub mod Putting
-pub mod Decimals
-pub mod NameSteps
-pub mod NameWords
-pub mod NameFields
-pub mod PairLines
 pub mod Laws
-pub mod Meaning
-pub mod Only

@@ -4,14 +4,14 @@ use mathlib.Core.List.{List, _++_}
 use Prim.Native.Nat.{ℕ, _≤_}
 use native.Mathlib.Omega.{arith}
 use lib.ListN.{length, drop, length-append}
-use Rattle.listing.specs.Listing.{listing}
+use Rattle.lines.specs.Listing.{listing}
 use Rattle.listing.proofs.main.Statement.{statement}
 use Rattle.listing.proofs.main.Tie as tie
 use Rattle.listing.proofs.main.Reads as reads
 use Rattle.listing.proofs.main.Lts as lts
 use Rattle.io.proofs.write_all.Reads as write-all-reads
 use Rattle.listing.proofs.input.read_card.Reads as read-card-reads
-use Rattle.listing.proofs.list.Reads as list-reads
+use Rattle.lines.proofs.list.Reads as list-reads
 
 -- what `list` answers lies in the buffer
 front : (card out : List ℕ) {r : ℕ} {c : List ℕ} → (r ≡ length (listing card)) × (c ≡ listing card ++ drop (length (listing card)) out) → r ≤ length c

@@ -1,0 +1,3 @@
+pub mod PairLines
+pub mod Meaning
+pub mod Only

@@ -1,0 +1,5 @@
+pub mod Putting
+pub mod Decimals
+pub mod NameSteps
+pub mod NameWords
+pub mod NameFields

@@ -1,0 +1,4 @@
+pub mod Names
+pub mod Numbers
+pub mod Fields
+pub mod Steps
