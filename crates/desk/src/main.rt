@@ -1,22 +1,15 @@
 // The desk: every call of the library at a keyboard. Requests come in on standard input, one a line, and each has one line of answer on
 // standard output. Lines of nothing but spaces and lines that begin with `#`, remarks, have none. There is one sheet, empty at the start.
-mod cards;
-mod input;
-mod names;
-mod sheets;
-
+use answers::Reply;
+use answers::fronts;
 use input::Place;
+use input::names;
+use kept::COORDINATES_KEPT;
+use kept::RECORDS_KEPT;
+use kept::RELATIONS_KEPT;
 use layout::lists::COORDINATES;
 use layout::lists::RECORDS;
 use layout::lists::RELATIONS;
-use requests::Reply;
-use requests::answers;
-use requests::fronts;
-use requests::lists;
-use requests::lists::COORDINATES_KEPT;
-use requests::lists::RECORDS_KEPT;
-use requests::lists::RELATIONS_KEPT;
-use requests::pairs;
 
 // The bytes that a line may have.
 const LONGEST_LINE: usize = 65535;
@@ -130,13 +123,13 @@ fn ask(
     let name = word.value;
     let from = word.next;
     match name {
-        names::PAIR => pairs::pair_reply(line, from, out, at),
-        names::TILES => pairs::tiles_reply(line, from),
-        names::LEND => lists::lend_reply(line, from, lent),
+        names::PAIR => reports::pair_reply(line, from, out, at),
+        names::TILES => parcels::tiles_reply(line, from),
+        names::LEND => kept::lend_reply(line, from, lent),
         names::POKE => lists::poke_reply(line, from, xs, records, relations),
         names::SHEET => lists::sheet_reply(line, from, out, at, xs, records, relations),
-        names::HOST => cards::host_reply(line, from, out, at),
-        names::PUT | names::REMOVE | names::CLEAR | names::LOAD => sheets::change(
+        names::HOST => reports::host_reply(line, from, out, at),
+        names::PUT | names::REMOVE | names::CLEAR | names::LOAD => kept::change(
             name,
             line,
             from,
@@ -145,7 +138,7 @@ fn ask(
             relations,
             lent,
         ),
-        names::CELL | names::ROW | names::WRITE => sheets::read(
+        names::CELL | names::ROW | names::WRITE => kept::read(
             name,
             line,
             from,

@@ -4,7 +4,7 @@ use Rattle.desk.proofs.serve.Statement.{statement}
 use Rattle.desk.proofs.serve.Tie as tie
 use Rattle.desk.proofs.serve.Reads as reads
 use Rattle.desk.proofs.serve.Lts as lts
-use Rattle.desk.proofs.input.start.Reads as start-reads
+use Rattle.input.proofs.start.Reads as start-reads
 use Rattle.desk.proofs.turn.Reads as turn-reads
 
 abbrev Inv-loop : tie.InvT-loop

@@ -1,0 +1,35 @@
+// The requests on two outlines and on a card, which are answered with the numbers of a report and need no sheet: pair, host.
+mod pairs;
+
+use answers::BEFORE;
+use answers::Reply;
+use answers::fronts;
+use input::cards;
+pub use pairs::pair_reply;
+use words::Bytes;
+use words::Natural;
+
+pub fn host_reply(line: &[u8], from: usize, out: &mut [u8], at: usize) -> Reply {
+    let number = words::read_natural(line, from);
+    let Natural::Is { value, next } = number else {
+        return Reply::Bad;
+    };
+    let size = value as usize;
+    let mut report = [BEFORE; 100];
+    if report.len() < size {
+        return Reply::Bad;
+    }
+    report_card(line, next, out, at, &mut report[0..size])
+}
+
+// Reports on the card that is read from `from` on, and answers the number and the whole report.
+fn report_card(line: &[u8], from: usize, out: &mut [u8], at: usize, report: &mut [u8]) -> Reply {
+    let mut bytes = [0u8; 32768];
+    let read = cards::read_last_bytes(line, from, &mut bytes);
+    let Bytes::Are { count, next: _ } = read else {
+        return Reply::Bad;
+    };
+    let number = host::direction_report(fronts::bytes(&bytes, count), report);
+    let next = words::put_natural(out, at, number as u64);
+    Reply::Upto(answers::put_bytes(out, next, report))
+}
