@@ -12,9 +12,9 @@ ghost use Rattle.layout.specs.BoxList.{boxesLength, boxAt, withBox, boxFound, B
 use layout::lists::SLOTS;
 use plane::Box;
 use relation::region_box;
-use storage::storage::ends_at;
-use storage::storage::is_empty;
-use storage::storage::outline_at;
+use storage::slots::ends_at;
+use storage::slots::is_empty;
+use storage::slots::outline_at;
 
 pub fn box_at(boxes: &[u64], slot: usize) -> Box
     requires { ⌜ (length (now boxes) ≡ boxesLength) × (slot < slots) ⌝ }

@@ -22,9 +22,9 @@ use layout::lists::ROOM;
 use layout::lists::SELF_CELL;
 use layout::lists::SLOTS;
 use relation::region_seen;
-use storage::storage::ends_at;
-use storage::storage::is_empty;
-use storage::storage::outline_at;
+use storage::slots::ends_at;
+use storage::slots::is_empty;
+use storage::slots::outline_at;
 
 fn number_or_zero(xs: &[i32], k: usize) -> i32
     ensures { λ z. ⌜ z ≡ getD (now (xs .entry)) k (pos 0) ⌝ }

@@ -9,7 +9,7 @@ use outline::refusals::SHEET_LISTS;
 use outline::refusals::SLOT_EMPTY;
 use outline::refusals::SLOT_NUMBER;
 use storage::lists::wrong_tables;
-use storage::storage::is_empty;
+use storage::slots::is_empty;
 use storage::table::cell_in;
 use storage::table::row_in;
 

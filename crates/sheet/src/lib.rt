@@ -12,7 +12,7 @@ use placing::writing::write_parcel;
 use storage::lists::clear_lists;
 use storage::lists::wrong_lists;
 use storage::refused::change_number;
-use storage::storage::is_empty;
+use storage::slots::is_empty;
 
 fn put_number(
     xs: &[i32],

@@ -10,10 +10,10 @@ use Rattle.layout.specs.Sheet.{sheetOf}
 use Rattle.storage.proofs.lists.wrong_tables.Reads as wrong-tables-reads
 use Rattle.storage.proofs.lists.wrong_lists.Reads as wrong-lists-reads
 use Rattle.storage.proofs.lists.clear_lists.Reads as clear-reads
-use Rattle.storage.proofs.storage.ring_count.Reads as ring-count-reads
-use Rattle.storage.proofs.storage.is_empty.Reads as is-empty-reads
-use Rattle.storage.proofs.storage.ends_at.Reads as ends-reads
-use Rattle.storage.proofs.storage.outline_at.Reads as outline-reads
+use Rattle.storage.proofs.slots.ring_count.Reads as ring-count-reads
+use Rattle.storage.proofs.slots.is_empty.Reads as is-empty-reads
+use Rattle.storage.proofs.slots.ends_at.Reads as ends-reads
+use Rattle.storage.proofs.slots.outline_at.Reads as outline-reads
 use Rattle.storage.proofs.refused.whole_number.Reads as whole-number-reads
 use Rattle.storage.proofs.refused.change_number.Reads as change-number-reads
 use Rattle.storage.proofs.table.cell_in.Reads as cell-reads

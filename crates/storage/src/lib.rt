@@ -2,5 +2,5 @@
 // refusals 11, 8 and 12 in their order.
 pub mod lists;
 pub mod refused;
-pub mod storage;
+pub mod slots;
 pub mod table;

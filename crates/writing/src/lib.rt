@@ -3,10 +3,10 @@ ghost use mathlib.Core.Path.{_≡_};
 ghost use Rattle.layout.specs.Sheet.{sheetOf};
 ghost use Rattle.writing.specs.Write.{written, write};
 use card::PARCELS_AT;
-use storage::refused::whole_number;
 use outline::refusals::BUFFER_SHORT;
 use steps::count_all;
 use steps::put_card;
+use storage::refused::whole_number;
 
 mod steps;
 

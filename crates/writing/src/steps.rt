@@ -17,10 +17,10 @@ use endian::put_u16;
 use endian::put_words;
 use layout::lists::SLOTS;
 use outline::last_end;
-use storage::storage::ends_at;
-use storage::storage::is_empty;
-use storage::storage::outline_at;
-use storage::storage::ring_count;
+use storage::slots::ends_at;
+use storage::slots::is_empty;
+use storage::slots::outline_at;
+use storage::slots::ring_count;
 
 fn parcels_in(records: &[u16], slot: usize) -> usize
     requires { ⌜ Counted (now records) slot ⌝ }

@@ -4,8 +4,8 @@ use native.Mathlib.Nat.{add-sub-cancel-left}
 use Rattle.outline.specs.Region.{lastEnd}
 use Rattle.layout.specs.Slots.{endsIn, coordinatesIn}
 use borrow.Author.Needs.{needs}
-use Rattle.storage.proofs.storage.outline_at.Statement.{statement}
-use Rattle.storage.proofs.storage.outline_at.Tie as tie
+use Rattle.storage.proofs.slots.outline_at.Statement.{statement}
+use Rattle.storage.proofs.slots.outline_at.Tie as tie
 
 mul-from : tie.Need-mul-from
 mul-from c = search needs

@@ -1,8 +1,8 @@
 use native.Mathlib.Nat.{add-sub-cancel-left}
 use borrow.Author.Needs.{needs}
 use Rattle.layout.specs.Slots.{endsIn}
-use Rattle.storage.proofs.storage.ends_at.Statement.{statement}
-use Rattle.storage.proofs.storage.ends_at.Tie as tie
+use Rattle.storage.proofs.slots.ends_at.Statement.{statement}
+use Rattle.storage.proofs.slots.ends_at.Tie as tie
 
 mul-from : tie.Need-mul-from
 mul-from c = search needs

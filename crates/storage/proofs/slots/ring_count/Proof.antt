@@ -3,8 +3,8 @@ use Prim.Native.Nat.{_*_}
 use native.Mathlib.Omega.{arith}
 use borrow.Author.Needs.{needs}
 use Rattle.layout.specs.Slots.{ringsIn}
-use Rattle.storage.proofs.storage.ring_count.Statement.{statement}
-use Rattle.storage.proofs.storage.ring_count.Tie as tie
+use Rattle.storage.proofs.slots.ring_count.Statement.{statement}
+use Rattle.storage.proofs.slots.ring_count.Tie as tie
 
 mul-at : tie.Need-mul-at
 mul-at c = search needs

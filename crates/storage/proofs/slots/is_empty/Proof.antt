@@ -2,8 +2,8 @@ use mathlib.Core.Path.{ap}
 use Prim.Native.Nat.{ℕ}
 use lib.Dec.{eqb}
 use borrow.Author.Needs.{needs}
-use Rattle.storage.proofs.storage.is_empty.Statement.{statement}
-use Rattle.storage.proofs.storage.is_empty.Tie as tie
+use Rattle.storage.proofs.slots.is_empty.Statement.{statement}
+use Rattle.storage.proofs.slots.is_empty.Tie as tie
 
 ring-count-requires : tie.Need-ring-count-requires
 ring-count-requires c κs = search needs
