@@ -21,8 +21,8 @@ use Rattle.layout.proofs.RightLists.{lists-mean}
 use Rattle.layout.proofs.Refusing.{change-means}
 use Rattle.layout.proofs.Standing.{layout-lists, layout-empty, layout-undamaged, layout-with, layout-same}
 use Rattle.layout.proofs.Blank.{blank-layout}
-use Rattle.calls.specs.Changes.{putNumber, put, removeNumber, remove, clearNumber, clear}
-use Rattle.calls.proofs.Numbers.{put-next, put-keeps, put-ready, put-is, put-refused, remove-next, remove-ready, remove-refused, remove-done}
+use Rattle.calls.specs.Changes.{putNumber, put, removeNumber, remove, clear}
+use Rattle.calls.proofs.Numbers.{put-next, put-keeps, put-ready, put-is, put-refused, remove-next, remove-ready, remove-refused, remove-done, clear-done}
 
 module _ (st : ℕ → Parcel) (stand : StandTogether 4 st) where
   -- ---- 11, 8 and 12
@@ -71,5 +71,4 @@ module _ (st : ℕ → Parcel) (stand : StandTogether 4 st) where
       look l (outline R) e = sym (remove-done (layout st) i (sym (number l (outline R) e)) refl) ∙ layout-with st stand i nothing
 
   pub clear-layout : clear (layout st) ≡ layout (λ k. nothing)
-  unfolding clear clearNumber
-  clear-layout = rw (lists-mean (layout st) .1 (layout-lists st stand)) blank-layout
+  clear-layout = sym (clear-done (layout st) (lists-mean (layout st) .1 (layout-lists st stand)) refl .1) ∙ blank-layout
