@@ -52,13 +52,14 @@ fn serve(
     while turns > 0 {
         p = turn(p, chunk, line, out, xs, records, relations, lent);
         if p.is_over {
+            answers::send(out, p.at);
             return;
         }
         turns -= 1;
     }
 }
 
-// Answers the next line of the chunk; at its end sends the answers and reads on. The last line may lack its line feed.
+// Answers the next line, if it is whole or the input is over.
 fn turn(
     before: Place,
     chunk: &mut [u8; 65536],
@@ -69,18 +70,12 @@ fn turn(
     relations: &mut [u16; RELATIONS_KEPT],
     lent: &mut [usize; 3],
 ) -> Place {
-    let p = input::take_line(before, chunk, line);
-    if p.is_line {
+    let p = input::next_piece(before, chunk, line, out);
+    if p.is_line || p.is_over {
         let at = answer(line, p.held, out, p.at, xs, records, relations, lent);
         return input::next_line(p, at);
     }
-    answers::send(out, p.at);
-    let read = input::read_on(p, chunk);
-    if read.is_over {
-        let at = answer(line, p.held, out, 0, xs, records, relations, lent);
-        answers::send(out, at);
-    }
-    read
+    p
 }
 
 // Answers the line that the first bytes of `line` are, and answers the place after that.

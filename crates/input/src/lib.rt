@@ -29,8 +29,24 @@ pub fn start() -> Place {
     }
 }
 
+// Takes the next line of the chunk; at its end sends the answers and reads on. What comes is a line, the end of the input, whose last line
+// may lack its line feed, or neither.
+pub fn next_piece(
+    before: Place,
+    chunk: &mut [u8; 65536],
+    line: &mut [u8; 65536],
+    out: &[u8],
+) -> Place {
+    let p = take_line(before, chunk, line);
+    if p.is_line {
+        return p;
+    }
+    answers::send(out, p.at);
+    read_on(p, chunk)
+}
+
 // Takes the bytes of the chunk up to a line feed, or to its end.
-pub fn take_line(p: Place, chunk: &[u8; 65536], line: &mut [u8; 65536]) -> Place {
+fn take_line(p: Place, chunk: &[u8; 65536], line: &mut [u8; 65536]) -> Place {
     let rest = fronts::bytes(chunk, p.to);
     let mut held = p.held;
     let mut i = p.from;
@@ -67,7 +83,7 @@ fn keep(line: &mut [u8; 65536], held: usize, byte: u8) -> usize {
     held + 1
 }
 
-// After an answer up to `at` a new line begins.
+// After an answer up to `at` a new line begins, unless the input is over.
 pub fn next_line(p: Place, at: usize) -> Place {
     Place {
         from: p.from,
@@ -75,12 +91,12 @@ pub fn next_line(p: Place, at: usize) -> Place {
         held: 0,
         at,
         is_line: false,
-        is_over: false,
+        is_over: p.is_over,
     }
 }
 
 // Reads the next chunk; the input is over where nothing comes.
-pub fn read_on(p: Place, chunk: &mut [u8]) -> Place {
+fn read_on(p: Place, chunk: &mut [u8]) -> Place {
     let got = libc::read(STDIN_FILENO, chunk);
     let n = io::count(got, chunk);
     Place {

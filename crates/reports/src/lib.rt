@@ -29,7 +29,11 @@ fn report_card(line: &[u8], from: usize, out: &mut [u8], at: usize, report: &mut
     let Bytes::Are { count, next: _ } = read else {
         return Reply::Bad;
     };
-    let number = host::direction_report(fronts::bytes(&bytes, count), report);
+    Reply::Upto(put_report(out, at, fronts::bytes(&bytes, count), report))
+}
+
+fn put_report(out: &mut [u8], at: usize, card: &[u8], report: &mut [u8]) -> usize {
+    let number = host::direction_report(card, report);
     let next = words::put_natural(out, at, number as u64);
-    Reply::Upto(answers::put_bytes(out, next, report))
+    answers::put_bytes(out, next, report)
 }

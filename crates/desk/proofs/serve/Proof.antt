@@ -6,6 +6,7 @@ use Rattle.desk.proofs.serve.Reads as reads
 use Rattle.desk.proofs.serve.Lts as lts
 use Rattle.input.proofs.start.Reads as start-reads
 use Rattle.desk.proofs.turn.Reads as turn-reads
+use Rattle.answers.proofs.send.Reads as send-reads
 
 abbrev Inv-loop : tie.InvT-loop
 Inv-loop chunk₀ line₀ out₀ xs₀ records₀ relations₀ lent₀ p₀ turns₀ chunk line out xs records relations lent p turns = Unit {0}
@@ -21,6 +22,9 @@ loop-holds c = tt
 
 turn-requires : tie.Need-turn-requires Inv-loop μ-loop
 turn-requires c κs = search needs
+
+send-requires : tie.Need-send-requires Inv-loop μ-loop
+send-requires c κs = search needs
 
 returns : tie.Need-returns Inv-loop μ-loop
 returns c = search needs
@@ -46,6 +50,7 @@ serve-spec =
     start-requires
     loop-holds
     turn-requires
+    send-requires
     returns
     sub-turns
     loop-less
