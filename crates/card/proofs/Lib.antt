@@ -5,4 +5,3 @@ pub mod Bounds
 pub mod Good
 pub mod Numbers
 pub mod Says
-pub mod Only

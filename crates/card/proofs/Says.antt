@@ -1,6 +1,5 @@
 -- Which number refuses a card by itself, and what it says: exactly the cases of specs/Says.
 --   card-says            the card's number is n exactly when case n holds
---   card-number-means    so it is of the answer of `card_number`, by its own contract
 use mathlib.Core.Path.{_≡_, refl, sym, _∙_, ap, subst}
 use mathlib.Core.Logic.{_↔_, _≢_}
 use mathlib.Core.Bool.{Bool, true, false}
@@ -30,7 +29,6 @@ use Rattle.card.specs.Says.{Header, Entries, Sizes, VerticesAdd, CardSay
 use Rattle.card.proofs.Tests.{header-means, header-right, entry-means, entry-right, parcels-mean, vertices-mean}
 use Rattle.card.proofs.Bounds.{parcel-keeps}
 use Rattle.card.proofs.Good.{right-vertices, good-means}
-use Rattle.card.proofs.rules.card_number.Reads as card-number-reads
 
 -- the first of many numbers that is not 0
 first-some : (f : ℕ → ℕ) (n : ℕ) → firstNumber f n ≢ 0 → (k : ℕ) × (k < n) × ((j : ℕ) → j < k → f j ≡ 0) × (f k ≢ 0)
@@ -174,6 +172,3 @@ module _ (b : List ℕ) where
 
   pub card-says : (n : ℕ) → (cardNumber b ≡ n) ↔ CardSays b n
   card-says n = (λ e. subst (CardSays b) e (card-case (wrongHeader b) refl (wrongParcels b) refl), card-back)
-
-pub card-number-means : (κs : _) (a : _) (r : ℕ) (s : _) → card-number-reads.Post κs a r s → (n : ℕ) → (r ≡ n) ↔ CardSays (a .0 .now) n
-card-number-means κs a r s post n = rw post (card-says (a .0 .now) n)

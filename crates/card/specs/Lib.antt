@@ -4,4 +4,3 @@ pub mod CardNumber
 pub mod Good
 pub mod Says
 pub mod Right
-pub mod Pairs

@@ -42,7 +42,7 @@ use Rattle.endian.proofs.Placed.{length-same}
 use Rattle.card.specs.Reading.{parcelCount, regionAt}
 use Rattle.card.specs.CardNumber.{cardNumber}
 use Rattle.card.specs.Good.{GoodCard, CardsOwn}
-use Rattle.card.specs.Pairs.{pairIn}
+use Rattle.carried.specs.Pairs.{pairIn}
 use Rattle.card.proofs.Good.{good-means}
 use Rattle.card.proofs.Numbers.{not-good-means}
 use Rattle.card.proofs.Says.{card-says}

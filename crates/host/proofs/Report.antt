@@ -16,7 +16,7 @@ use Rattle.endian.specs.Placed.{placed}
 use Rattle.endian.proofs.Placed.{length-same, placed-whole}
 use Rattle.card.specs.Reading.{parcelCount}
 use Rattle.card.specs.CardNumber.{cardNumber}
-use Rattle.card.specs.Pairs.{pairIn}
+use Rattle.carried.specs.Pairs.{pairIn}
 use Rattle.host.specs.Report.{reportNumbers, reportLength, reportBytes, hostNumber, hostReport}
 
 report-long : (a : Answer) → length (reportBytes a) ≡ reportLength

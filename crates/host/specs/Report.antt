@@ -15,7 +15,7 @@ use Rattle.pair.specs.Answer.{reportWords}
 use Rattle.endian.specs.Placed.{wordBytes}
 use Rattle.card.specs.Reading.{parcelCount}
 use Rattle.card.specs.CardNumber.{cardNumber}
-use Rattle.card.specs.Pairs.{pairIn}
+use Rattle.carried.specs.Pairs.{pairIn}
 
 abbrev pub reportNumbers : ℕ
 reportNumbers = 19

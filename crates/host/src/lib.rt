@@ -1,9 +1,9 @@
 // The one call for the C host: a card of two parcels in, a report out.
 ghost use mathlib.Core.Path.{_≡_};
 ghost use Rattle.host.specs.Report.{hostNumber, hostReport};
-use card::pair_in;
 use card::parcel_count;
-use card::rules::card_number;
+use carried::pair_in;
+use contents::rules::card_number;
 use endian::put_words;
 use outline::refusals::BUFFER_SHORT;
 use outline::refusals::NOT_TWO_PARCELS;

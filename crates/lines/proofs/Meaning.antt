@@ -44,7 +44,7 @@ use Rattle.endian.specs.Bytes.{joined}
 use Rattle.card.specs.Reading.{parcelCount, slotAt, regionAt}
 use Rattle.card.specs.CardNumber.{cardNumber}
 use Rattle.card.specs.Good.{GoodCard, CardsOwn}
-use Rattle.card.specs.Pairs.{pairIn}
+use Rattle.carried.specs.Pairs.{pairIn}
 use Rattle.card.proofs.Good.{good-means}
 use Rattle.card.proofs.Numbers.{not-good-means}
 use Rattle.io.specs.Digits.{glyph, digits}

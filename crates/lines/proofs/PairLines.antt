@@ -23,7 +23,7 @@ use Rattle.card.specs.Reading.{parcelCount, slotAt}
 use Rattle.card.specs.CardNumber.{cardNumber}
 use Rattle.card.proofs.Tests.{header-means}
 use Rattle.card.proofs.Good.{good-means, good-right}
-use Rattle.card.specs.Pairs.{pairIn}
+use Rattle.carried.specs.Pairs.{pairIn}
 use Rattle.names.specs.Names.{namesOf, B, O}
 use Rattle.names.specs.Numbers.{space, decimal}
 use Rattle.lines.specs.Listing.{lineFeed, parcelsWord, refusedWord, pairLine, lineOf, listing}

@@ -13,7 +13,7 @@ use Rattle.pair.specs.declared.Answer.{Answer}
 use Rattle.endian.specs.Bytes.{joined}
 use Rattle.card.specs.Reading.{parcelCount, slotAt}
 use Rattle.card.specs.CardNumber.{cardNumber}
-use Rattle.card.specs.Pairs.{pairIn}
+use Rattle.carried.specs.Pairs.{pairIn}
 use Rattle.names.specs.Names.{namesOf, B, O}
 use Rattle.names.specs.Numbers.{space, decimal}
 

@@ -8,7 +8,7 @@ mod lines;
 
 use crate::lines::put_rows;
 use card::parcel_count;
-use card::rules::card_number;
+use contents::rules::card_number;
 use names::put_number;
 use names::put_text;
 use words::LINE_FEED;

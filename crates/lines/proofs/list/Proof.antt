@@ -18,7 +18,7 @@ use Rattle.lines.proofs.list.Tie as tie
 use Rattle.lines.proofs.list.Reads as reads
 use Rattle.lines.proofs.list.Lts as lts
 use Rattle.card.proofs.parcel_count.Reads as parcel-count-reads
-use Rattle.card.proofs.rules.card_number.Reads as card-number-reads
+use Rattle.contents.proofs.rules.card_number.Reads as card-number-reads
 use Rattle.lines.proofs.lines.put_rows.Reads as put-rows-reads
 use Rattle.names.proofs.put_number.Reads as put-number-reads
 use Rattle.names.proofs.put_text.Reads as put-text-reads

@@ -12,7 +12,7 @@ use Rattle.lines.proofs.lines.put_pair.Tie as tie
 use Rattle.lines.proofs.lines.put_pair.Reads as reads
 use Rattle.lines.proofs.lines.put_pair.Lts as lts
 use Rattle.card.proofs.slot_at.Reads as slot-at-reads
-use Rattle.card.proofs.pair_in.Reads as pair-in-reads
+use Rattle.carried.proofs.pair_in.Reads as pair-in-reads
 use Rattle.lines.proofs.lines.put_line.Reads as put-line-reads
 
 -- the line that is put
