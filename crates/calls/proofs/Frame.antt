@@ -6,7 +6,7 @@ use Prim.Native.Nat.{ℕ}
 use lib.Dec.{eqb}
 use borrow.Author.Tests.{eqb-true}
 use Rattle.plane.specs.Choice.{pick}
-use Rattle.outline.specs.Region.{Region, Parcel, nothing, outline}
+use Rattle.region.specs.Region.{Region, Parcel, nothing, outline}
 use Rattle.layout.specs.Sheet.{Sheet}
 use Rattle.layout.specs.Changes.{withParcel, TouchesOnly}
 use Rattle.layout.specs.Steps.{Ready}

@@ -8,11 +8,11 @@ use mathlib.Core.Bool.{not}
 use Prim.Native.Nat.{ℕ, _<_}
 use native.Mathlib.Decide.{ℕ-discrete, decLt}
 use borrow.Author.Tests.{eq-eqb, ne-eqb}
-use Rattle.outline.specs.Region.{Region, Parcel, nothing, outline}
-use Rattle.outline.specs.Rules.{KeepsRules}
-use Rattle.outline.specs.Refusals.{numberIf, slot-empty}
-use Rattle.outline.proofs.Check.{accepted-number}
-use Rattle.outline.proofs.OrElse.{number-some}
+use Rattle.region.specs.Region.{Region, Parcel, nothing, outline}
+use Rattle.region.specs.Rules.{KeepsRules}
+use Rattle.region.specs.Refusals.{numberIf, slot-empty}
+use Rattle.region.proofs.Check.{accepted-number}
+use Rattle.region.proofs.OrElse.{number-some}
 use Rattle.layout.specs.Sheet.{slots}
 use Rattle.layout.specs.Standing.{occupied, instead, ParcelKeeps, StandTogether}
 use Rattle.layout.specs.Layout.{layout}

@@ -9,13 +9,13 @@ use mathlib.Core.Bool.{Bool, true, false}
 use Prim.Native.Nat.{ℕ}
 use native.Mathlib.Omega.{arith}
 use borrow.Author.Tests.{eq-eqb, ne-eqb}
-use Rattle.outline.specs.Region.{Region, nothing, outline}
-use Rattle.outline.specs.Rules.{Keeps, KeepsRules}
-use Rattle.outline.specs.Refusals.{numberIf, slot-empty}
-use Rattle.outline.specs.Check.{checkOf, numberOf}
-use Rattle.outline.proofs.Keeps.{keeps-fewer}
-use Rattle.outline.proofs.OrElse.{or-else-first, or-else-next, or-else-none}
-use Rattle.outline.proofs.Check.{accepted-number}
+use Rattle.region.specs.Region.{Region, nothing, outline}
+use Rattle.region.specs.Rules.{Keeps, KeepsRules}
+use Rattle.region.specs.Refusals.{numberIf, slot-empty}
+use Rattle.region.specs.Check.{checkOf, numberOf}
+use Rattle.region.proofs.Keeps.{keeps-fewer}
+use Rattle.region.proofs.OrElse.{or-else-first, or-else-next, or-else-none}
+use Rattle.region.proofs.Check.{accepted-number}
 use Rattle.layout.specs.Sheet.{Sheet, wrongLists}
 use Rattle.layout.specs.Layout.{blank}
 use Rattle.layout.specs.Slots.{emptyIn}

@@ -8,9 +8,9 @@ use mathlib.Core.List.{List}
 use Prim.Native.Nat.{ℕ}
 use lib.Dec.{ltb}
 use Rattle.plane.specs.Choice.{pick}
-use Rattle.outline.specs.Region.{Region}
-use Rattle.outline.specs.Refusals.{number, numberIf, orElse, slot-number, slot-empty, sheet-lists, sheet-damaged}
-use Rattle.outline.specs.Check.{checkOf, numberOf}
+use Rattle.region.specs.Region.{Region}
+use Rattle.region.specs.Refusals.{number, numberIf, orElse, slot-number, slot-empty, sheet-lists, sheet-damaged}
+use Rattle.region.specs.Check.{checkOf, numberOf}
 use Rattle.layout.specs.Sheet.{Sheet, lastSlot, wrongTables, wrongLists}
 use Rattle.layout.specs.Slots.{emptyIn}
 use Rattle.layout.specs.Damage.{damaged}

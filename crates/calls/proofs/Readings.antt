@@ -20,8 +20,8 @@ use borrow.Author.Tests.{ltb-false, le-ltb, eqb-false, eq-eqb, ne-eqb}
 use Rattle.plane.specs.Folds.{sumTo}
 use Rattle.plane.specs.TileSet.{bit}
 use Rattle.plane.proofs.Logic.{clash, is-false, or-means}
-use Rattle.outline.specs.Refusals.{numberIf, orElse, slot-number, slot-empty, sheet-lists}
-use Rattle.outline.proofs.OrElse.{or-else-none, number-if-none}
+use Rattle.region.specs.Refusals.{numberIf, orElse, slot-number, slot-empty, sheet-lists}
+use Rattle.region.proofs.OrElse.{or-else-none, number-if-none}
 use Rattle.layout.specs.Sheet.{slots, lastSlot, wrongTables}
 use Rattle.layout.specs.Slots.{ringsIn, emptyIn, cellIn}
 use Rattle.layout.proofs.RightLists.{tables-mean}

@@ -13,12 +13,12 @@ use native.Mathlib.Decide.{decLt}
 use lib.Dec.{ltb}
 use borrow.Author.Tests.{ltb-true, ltb-false, lt-ltb, le-ltb}
 use Rattle.plane.proofs.Logic.{never, clash, is-false, is-true, or-means, eq-means, iff-join, iff-or}
-use Rattle.outline.specs.declared.Checked.{Checked}
-use Rattle.outline.specs.declared.Checked.the-variants.{Accepted, Refused}
-use Rattle.outline.specs.Region.{Region}
-use Rattle.outline.specs.Refusals.{numberIf, orElse, slot-number, slot-empty, sheet-lists}
-use Rattle.outline.specs.Check.{checkOf, numberOf}
-use Rattle.outline.proofs.Check.{accepted-means, refused-means, accepted-number}
+use Rattle.region.specs.declared.Checked.{Checked}
+use Rattle.region.specs.declared.Checked.the-variants.{Accepted, Refused}
+use Rattle.region.specs.Region.{Region}
+use Rattle.region.specs.Refusals.{numberIf, orElse, slot-number, slot-empty, sheet-lists}
+use Rattle.region.specs.Check.{checkOf, numberOf}
+use Rattle.region.proofs.Check.{accepted-means, refused-means, accepted-number}
 use Rattle.layout.specs.Sheet.{Sheet, slots, lastSlot, wrongTables, wrongLists}
 use Rattle.layout.specs.Standing.{occupied}
 use Rattle.layout.specs.Slots.{ringsIn, emptyIn}

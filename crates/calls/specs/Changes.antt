@@ -6,9 +6,9 @@
 use Prim.Native.Nat.{ℕ}
 use lib.Dec.{eqb}
 use Rattle.plane.specs.Choice.{pick}
-use Rattle.outline.specs.Region.{Region, nothing, outline}
-use Rattle.outline.specs.Refusals.{numberIf, orElse, slot-empty, sheet-lists}
-use Rattle.outline.specs.Check.{checkOf, numberOf}
+use Rattle.region.specs.Region.{Region, nothing, outline}
+use Rattle.region.specs.Refusals.{numberIf, orElse, slot-empty, sheet-lists}
+use Rattle.region.specs.Check.{checkOf, numberOf}
 use Rattle.layout.specs.Sheet.{Sheet, wrongLists}
 use Rattle.layout.specs.Layout.{blank}
 use Rattle.layout.specs.Slots.{emptyIn}

@@ -13,7 +13,7 @@ use lib.Dec.{ltb, eqb}
 use Rattle.plane.specs.Choice.{pick}
 use Rattle.plane.specs.Folds.{sumTo}
 use Rattle.plane.specs.TileSet.{bit}
-use Rattle.outline.specs.Refusals.{numberIf, orElse, slot-number, slot-empty, sheet-lists}
+use Rattle.region.specs.Refusals.{numberIf, orElse, slot-number, slot-empty, sheet-lists}
 use Rattle.layout.specs.Sheet.{lastSlot, wrongTables}
 use Rattle.layout.specs.Slots.{emptyIn, cellIn, rowIn, rowPlace}
 use Rattle.calls.specs.declared.Reading.{Reading}

@@ -10,9 +10,9 @@ use mathlib.Core.Path.{_≡_}
 use mathlib.Core.Logic.{_⊎_, _≢_}
 use mathlib.Core.List.{List}
 use Prim.Native.Nat.{ℕ, _≤_, _<_}
-use Rattle.outline.specs.Region.{Region, nothing, outline}
-use Rattle.outline.specs.Rules.{KeepsRules, RefusedWith}
-use Rattle.outline.specs.Refusals.{number, slot-number, slot-empty, sheet-lists, sheet-damaged}
+use Rattle.region.specs.Region.{Region, nothing, outline}
+use Rattle.region.specs.Rules.{KeepsRules, RefusedWith}
+use Rattle.region.specs.Refusals.{number, slot-number, slot-empty, sheet-lists, sheet-damaged}
 use Rattle.layout.specs.Sheet.{Sheet, slots, RightLists, RightTables}
 use Rattle.layout.specs.Slots.{ringsIn, parcelAt}
 use Rattle.layout.specs.Damage.{Undamaged}

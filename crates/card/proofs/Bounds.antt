@@ -19,10 +19,10 @@ use mathlib.Core.Bool.{false}
 use Rattle.plane.specs.Folds.{sumTo}
 use Rattle.plane.specs.Lists.{tab}
 use Rattle.plane.proofs.Lists.{length-tab, getD-tab}
-use Rattle.outline.specs.Region.{mostRings, mostVertices, lastEnd}
-use Rattle.outline.specs.Rules.{Keeps}
-use Rattle.outline.proofs.Ends.{start-lt}
-use Rattle.outline.proofs.Keeps.{sized-keeps}
+use Rattle.region.specs.Region.{mostRings, mostVertices, lastEnd}
+use Rattle.region.specs.Rules.{Keeps}
+use Rattle.region.proofs.Ends.{start-lt}
+use Rattle.region.proofs.Keeps.{sized-keeps}
 use Rattle.endian.specs.Bytes.{u16At}
 use Rattle.card.specs.Layout.{cardParcels, cardRings, cardVertices, parcelsAt, ringsAt, verticesAt}
 use Rattle.card.specs.Reading.{parcelCount, ringCount, countAt, firstRing, firstVertex, endsAt, numbersAt, regionAt}

@@ -10,10 +10,10 @@ use mathlib.Core.List.{List}
 use Prim.Native.Nat.{ℕ, zero, suc, _+_, _-_, _<_}
 use native.Mathlib.Omega.{arith}
 use Rattle.plane.proofs.Logic.{iff-join, iff-and}
-use Rattle.outline.specs.Refusals.{numberIf, firstNumber, card-header, card-parcels, card-vertices}
-use Rattle.outline.proofs.Keeps.{keeps-fewer, sized}
-use Rattle.outline.proofs.Check.{shape-number-none}
-use Rattle.outline.proofs.OrElse.{or-else-none, number-if-none, first-number-none}
+use Rattle.region.specs.Refusals.{numberIf, firstNumber, card-header, card-parcels, card-vertices}
+use Rattle.region.proofs.Keeps.{keeps-fewer, sized}
+use Rattle.region.proofs.Check.{shape-number-none}
+use Rattle.region.proofs.OrElse.{or-else-none, number-if-none, first-number-none}
 use Rattle.card.specs.Reading.{parcelCount, slotAt, regionAt}
 use Rattle.card.specs.CardNumber.{wrongHeader, wrongParcels, wrongVertices, sizesNumber, shapeNumber, cardNumber}
 use Rattle.card.specs.Good.{GoodCard}

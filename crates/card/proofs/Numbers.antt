@@ -12,11 +12,11 @@ use lib.Dec.{ltb}
 use lib.ListN.{length}
 use Rattle.plane.specs.Choice.{pick}
 use Rattle.plane.specs.Folds.{anyTo, firstOf}
-use Rattle.outline.specs.declared.Checked.{Checked}
-use Rattle.outline.specs.declared.Checked.the-variants.{Accepted, Refused}
-use Rattle.outline.specs.Refusals.{Refusal, number, numberIf, orElse, firstNumber, ring-length, list-size, card-header, card-parcels, card-vertices}
-use Rattle.outline.specs.Region.{Region, mostRings, mostVertices, lastEnd}
-use Rattle.outline.specs.Check.{shortAt, breaksAt, firstBreaking, shapeOf, numberOf}
+use Rattle.region.specs.declared.Checked.{Checked}
+use Rattle.region.specs.declared.Checked.the-variants.{Accepted, Refused}
+use Rattle.region.specs.Refusals.{Refusal, number, numberIf, orElse, firstNumber, ring-length, list-size, card-header, card-parcels, card-vertices}
+use Rattle.region.specs.Region.{Region, mostRings, mostVertices, lastEnd}
+use Rattle.region.specs.Check.{shortAt, breaksAt, firstBreaking, shapeOf, numberOf}
 use Rattle.card.specs.Reading.{parcelCount, endsAt, regionAt}
 use Rattle.card.specs.CardNumber.{wrongHeader, wrongParcels, wrongVertices, sizesNumber, shapeNumber, cardNumber}
 use Rattle.card.specs.Good.{GoodCard, CardsOwn}

@@ -13,15 +13,15 @@ use borrow.Author.Tests.{ltb-true, ltb-false, lt-ltb, le-ltb}
 use Rattle.plane.specs.Folds.{anyTo}
 use Rattle.plane.proofs.Logic.{clash, is-false, is-true}
 use Rattle.plane.proofs.Folds.{any-means}
-use Rattle.outline.specs.declared.Checked.{Checked}
-use Rattle.outline.specs.declared.Checked.the-variants.{Accepted, Refused}
-use Rattle.outline.specs.Refusals.{numberIf, orElse, firstNumber, ring-length, list-size, card-header, card-parcels, card-vertices}
-use Rattle.outline.specs.Region.{mostVertices, lastEnd}
-use Rattle.outline.specs.Rules.{Breaks, Keeps}
-use Rattle.outline.specs.Check.{shortAt, shapeOf, numberOf}
-use Rattle.outline.proofs.Keeps.{broken-number}
-use Rattle.outline.proofs.Check.{shape-refused, shape-number-none}
-use Rattle.outline.proofs.OrElse.{or-else-none, first-number-none, zeros-hit}
+use Rattle.region.specs.declared.Checked.{Checked}
+use Rattle.region.specs.declared.Checked.the-variants.{Accepted, Refused}
+use Rattle.region.specs.Refusals.{numberIf, orElse, firstNumber, ring-length, list-size, card-header, card-parcels, card-vertices}
+use Rattle.region.specs.Region.{mostVertices, lastEnd}
+use Rattle.region.specs.Rules.{Breaks, Keeps}
+use Rattle.region.specs.Check.{shortAt, shapeOf, numberOf}
+use Rattle.region.proofs.Keeps.{broken-number}
+use Rattle.region.proofs.Check.{shape-refused, shape-number-none}
+use Rattle.region.proofs.OrElse.{or-else-none, first-number-none, zeros-hit}
 use Rattle.card.specs.Reading.{parcelCount, endsAt, regionAt}
 use Rattle.card.specs.CardNumber.{wrongHeader, wrongParcels, sizesNumber, shapeNumber, wrongVertices, cardNumber}
 use Rattle.card.specs.Right.{RightVertices}

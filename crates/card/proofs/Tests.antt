@@ -16,11 +16,11 @@ use borrow.Author.Tests.{lt-ltb, le-ltb, eq-eqb, ne-eqb, lt-leb, ltb-false, leb-
 use Rattle.plane.specs.Folds.{anyTo, sumTo}
 use Rattle.plane.proofs.Logic.{never, clash, is-false, iff-join, iff-and}
 use Rattle.plane.proofs.Folds.{any-means, any-none}
-use Rattle.outline.specs.Refusals.{numberIf, ring-length, list-size}
-use Rattle.outline.specs.Region.{mostRings, mostVertices, startOf, lastEnd}
-use Rattle.outline.specs.Check.{shortAt}
-use Rattle.outline.proofs.OrElse.{or-else-none, number-if-none}
-use Rattle.outline.proofs.Ends.{Grown}
+use Rattle.region.specs.Refusals.{numberIf, ring-length, list-size}
+use Rattle.region.specs.Region.{mostRings, mostVertices, startOf, lastEnd}
+use Rattle.region.specs.Check.{shortAt}
+use Rattle.region.proofs.OrElse.{or-else-none, number-if-none}
+use Rattle.region.proofs.Ends.{Grown}
 use Rattle.endian.specs.Bytes.{u16At}
 use Rattle.card.specs.Layout.{cardParcels, cardRings, cardVertices, lastCardSlot, parcelsAt, ringsAt, verticesAt, lengthOf}
 use Rattle.card.specs.Reading.{parcelCount, ringCount, vertexCount, slotAt, countAt, endsAt}

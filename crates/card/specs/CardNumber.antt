@@ -11,9 +11,9 @@ use Prim.Native.Nat.{ℕ, _-_}
 use lib.Dec.{leb, ltb, eqb}
 use lib.ListN.{length}
 use Rattle.plane.specs.Folds.{anyTo, sumTo}
-use Rattle.outline.specs.Refusals.{numberIf, orElse, firstNumber, ring-length, list-size, card-header, card-parcels, card-vertices}
-use Rattle.outline.specs.Region.{mostRings, mostVertices, lastEnd}
-use Rattle.outline.specs.Check.{shortAt, shapeOf, numberOf}
+use Rattle.region.specs.Refusals.{numberIf, orElse, firstNumber, ring-length, list-size, card-header, card-parcels, card-vertices}
+use Rattle.region.specs.Region.{mostRings, mostVertices, lastEnd}
+use Rattle.region.specs.Check.{shortAt, shapeOf, numberOf}
 use Rattle.endian.specs.Bytes.{u16At}
 use Rattle.card.specs.Layout.{cardParcels, cardRings, cardVertices, lastCardSlot, parcelsAt, ringsAt, verticesAt, lengthOf}
 use Rattle.card.specs.Reading.{parcelCount, ringCount, vertexCount, slotAt, countAt, endsAt, regionAt}

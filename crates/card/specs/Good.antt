@@ -7,8 +7,8 @@ use mathlib.Core.List.{List}
 use Prim.Native.Nat.{ℕ, _+_, _≤_, _<_}
 use lib.ListN.{length}
 use Rattle.plane.specs.Folds.{sumTo}
-use Rattle.outline.specs.Region.{mostRings, lastEnd}
-use Rattle.outline.specs.Rules.{KeepsRules}
+use Rattle.region.specs.Region.{mostRings, lastEnd}
+use Rattle.region.specs.Rules.{KeepsRules}
 use Rattle.endian.specs.Bytes.{u16At}
 use Rattle.card.specs.Layout.{cardParcels, cardRings, cardVertices, lastCardSlot, parcelsAt, ringsAt, verticesAt, lengthOf}
 use Rattle.card.specs.Reading.{parcelCount, ringCount, vertexCount, slotAt, countAt, endsAt, regionAt}

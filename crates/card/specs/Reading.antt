@@ -12,7 +12,7 @@ use lib.IntN.{ℤ}
 use Rattle.plane.specs.Choice.{pick}
 use Rattle.plane.specs.Folds.{sumTo, firstOf}
 use Rattle.plane.specs.Lists.{tab}
-use Rattle.outline.specs.Region.{Region, regionOf, Parcel, nothing, outline, lastEnd}
+use Rattle.region.specs.Region.{Region, regionOf, Parcel, nothing, outline, lastEnd}
 use Rattle.endian.specs.Bytes.{u16At, i32At}
 use Rattle.card.specs.Layout.{parcelsAt, ringsAt, verticesAt}
 

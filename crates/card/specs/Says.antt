@@ -11,9 +11,9 @@ use mathlib.Core.List.{List}
 use Prim.Native.Nat.{ℕ, _-_, _≤_, _<_}
 use lib.ListN.{length}
 use Rattle.plane.specs.Folds.{sumTo}
-use Rattle.outline.specs.Refusals.{number, ring-length, list-size, card-header, card-parcels, card-vertices}
-use Rattle.outline.specs.Region.{mostRings, mostVertices, lastEnd}
-use Rattle.outline.specs.Rules.{Breaks, KeepsRules, RefusedWith}
+use Rattle.region.specs.Refusals.{number, ring-length, list-size, card-header, card-parcels, card-vertices}
+use Rattle.region.specs.Region.{mostRings, mostVertices, lastEnd}
+use Rattle.region.specs.Rules.{Breaks, KeepsRules, RefusedWith}
 use Rattle.endian.specs.Bytes.{u16At}
 use Rattle.card.specs.Layout.{cardParcels, cardRings, cardVertices, lastCardSlot, parcelsAt, ringsAt, verticesAt, lengthOf}
 use Rattle.card.specs.Reading.{parcelCount, ringCount, vertexCount, slotAt, countAt, endsAt, regionAt}

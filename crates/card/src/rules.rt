@@ -11,7 +11,7 @@ use crate::first_ring;
 use crate::parcel_count;
 use crate::slot_at;
 use endian::u16_at;
-use outline::MOST_RINGS;
+use region::MOST_RINGS;
 
 const MOST_CARD_PARCELS: usize = 32;
 

@@ -7,9 +7,9 @@ ghost use Rattle.carried.specs.Pairs.{pairIn};
 use contents::MOST_NUMBERS;
 use contents::read_ends;
 use contents::read_numbers;
-use outline::MOST_RINGS;
 use pair::Answer;
 use pair::pair_of;
+use region::MOST_RINGS;
 
 // The pair answer for parcels j and k of a good card.
 pub fn pair_in(card: &[u8], j: usize, k: usize) -> Answer

@@ -4,7 +4,7 @@ ghost use mathlib.Core.Bool.{false};
 ghost use mathlib.Core.List.{_++_};
 ghost use Prim.Native.Nat.{_*_, _≤_, _<_};
 ghost use lib.ListN.{length, drop};
-ghost use Rattle.outline.specs.Region.{mostRings, mostVertices, lastEnd};
+ghost use Rattle.region.specs.Region.{mostRings, mostVertices, lastEnd};
 ghost use Rattle.card.specs.Layout.{ringsAt, verticesAt};
 ghost use Rattle.card.specs.Reading.{parcelCount, ringCount, countAt, firstVertex, endsAt, numbersAt};
 ghost use Rattle.card.specs.CardNumber.{wrongHeader};
@@ -15,9 +15,9 @@ use card::first_ring;
 use card::parcel_count;
 use endian::i32_at;
 use endian::u16_at;
-use outline::MOST_RINGS;
-use outline::MOST_VERTICES;
 use outline::last_end;
+use region::MOST_RINGS;
+use region::MOST_VERTICES;
 
 pub mod rules;
 

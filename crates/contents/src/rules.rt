@@ -1,7 +1,7 @@
 // The card's own rules: 14, 15, 2 and 3, 16, and 4 to 7, in this order.
 ghost use mathlib.Core.Path.{_≡_};
 ghost use Prim.Native.Nat.{_<_};
-ghost use Rattle.outline.specs.Refusals.{firstNumber};
+ghost use Rattle.region.specs.Refusals.{firstNumber};
 ghost use Rattle.card.specs.Reading.{parcelCount};
 ghost use Rattle.card.specs.CardNumber.{sizesNumber, wrongVertices, shapeNumber, cardNumber};
 ghost use Rattle.card.specs.Right.{RightParcels, RightVertices};
@@ -13,17 +13,17 @@ use card::parcel_count;
 use card::rules::wrong_header;
 use card::rules::wrong_parcels;
 use endian::u16_at;
-use outline::MOST_RINGS;
-use outline::MOST_VERTICES;
 use outline::check_shape;
 use outline::first_short;
 use outline::last_end;
 use outline::number_of;
-use outline::refusals::CARD_HEADER;
-use outline::refusals::CARD_PARCELS;
-use outline::refusals::CARD_VERTICES;
-use outline::refusals::LIST_SIZE;
-use outline::refusals::RING_LENGTH;
+use region::MOST_RINGS;
+use region::MOST_VERTICES;
+use region::refusals::CARD_HEADER;
+use region::refusals::CARD_PARCELS;
+use region::refusals::CARD_VERTICES;
+use region::refusals::LIST_SIZE;
+use region::refusals::RING_LENGTH;
 
 // Rules 2 and 3 of one parcel.
 fn sizes_number(card: &[u8], k: usize) -> u16

@@ -25,9 +25,9 @@ use borrow.Author.Tests.{eq-eqb, ne-eqb}
 use Rattle.plane.specs.Points.{Lines}
 use Rattle.plane.specs.TileSet.{bit}
 use Rattle.plane.proofs.Lists.{length-tab}
-use Rattle.outline.specs.Region.{Region, lastEnd}
-use Rattle.outline.specs.Rules.{KeepsRules}
-use Rattle.outline.proofs.Keeps.{keeps-fewer, sized}
+use Rattle.region.specs.Region.{Region, lastEnd}
+use Rattle.region.specs.Rules.{KeepsRules}
+use Rattle.region.proofs.Keeps.{keeps-fewer, sized}
 use Rattle.relation.specs.Relation.{RegionBox, RegionHas}
 use Rattle.matrix.specs.Matrix.{flatOf}
 use Rattle.pair.specs.declared.Answer.{Answer}

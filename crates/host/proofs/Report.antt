@@ -8,7 +8,7 @@ use Prim.Native.Nat.{ℕ, _≤_, _<_}
 use native.Mathlib.Omega.{arith}
 use lib.ListN.{length, getD, drop}
 use borrow.Author.Tests.{lt-ltb, le-ltb, eq-eqb, ne-eqb}
-use Rattle.outline.proofs.OrElse.{or-else-first}
+use Rattle.region.proofs.OrElse.{or-else-first}
 use Rattle.pair.specs.declared.Answer.{Answer}
 use Rattle.pair.specs.Answer.{reportWords}
 use Rattle.endian.specs.Bytes.{u16Bytes}

@@ -8,7 +8,7 @@ use mathlib.Core.Logic.{_≢_}
 use mathlib.Core.List.{List}
 use Prim.Native.Nat.{ℕ, _+_, _*_, _≤_, _<_}
 use lib.ListN.{length}
-use Rattle.outline.specs.Refusals.{number, buffer-short, not-two-parcels}
+use Rattle.region.specs.Refusals.{number, buffer-short, not-two-parcels}
 use Rattle.pair.specs.declared.Answer.{Answer}
 use Rattle.pair.specs.Meaning.{cellFrom}
 use Rattle.endian.specs.Bytes.{u16At}

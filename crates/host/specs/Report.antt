@@ -9,7 +9,7 @@ use mathlib.Core.Bool.{not}
 use lib.Dec.{ltb, eqb}
 use lib.ListN.{length, drop}
 use Rattle.plane.specs.Choice.{pick}
-use Rattle.outline.specs.Refusals.{numberIf, orElse, buffer-short, not-two-parcels}
+use Rattle.region.specs.Refusals.{numberIf, orElse, buffer-short, not-two-parcels}
 use Rattle.pair.specs.declared.Answer.{Answer}
 use Rattle.pair.specs.Answer.{reportWords}
 use Rattle.endian.specs.Placed.{wordBytes}

@@ -5,9 +5,9 @@ use card::parcel_count;
 use carried::pair_in;
 use contents::rules::card_number;
 use endian::put_words;
-use outline::refusals::BUFFER_SHORT;
-use outline::refusals::NOT_TWO_PARCELS;
 use pair::report_words;
+use region::refusals::BUFFER_SHORT;
+use region::refusals::NOT_TWO_PARCELS;
 
 const REPORT_LENGTH: usize = 38;
 

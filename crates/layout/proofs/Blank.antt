@@ -8,7 +8,7 @@ use lib.IntN.{pos}
 use lib.ListN.{length, replicate, length-replicate, getD-replicate}
 use Rattle.plane.specs.Lists.{tab}
 use Rattle.plane.proofs.Lists.{tab-all, tab-same}
-use Rattle.outline.specs.Region.{nothing}
+use Rattle.region.specs.Region.{nothing}
 use Rattle.layout.specs.Sheet.{Sheet, sheetOf, recordLength, coordinatesLength, recordsLength, relationsLength, RightLists}
 use Rattle.layout.specs.Layout.{recordNumber, layout, blank}
 

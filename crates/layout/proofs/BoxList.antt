@@ -17,7 +17,7 @@ use lib.Seq.{getD-set-same, getD-set-other}
 use Rattle.plane.specs.Choice.{pick}
 use Rattle.plane.specs.declared.Box.{Box}
 use Rattle.plane.proofs.Logic.{clash}
-use Rattle.outline.specs.Region.{Region, nothing, outline, regionOf}
+use Rattle.region.specs.Region.{Region, nothing, outline, regionOf}
 use Rattle.relation.specs.Relation.{regionBox}
 use Rattle.layout.specs.Sheet.{slots}
 use Rattle.layout.specs.Standing.{occupied, endList, coordinateList}

@@ -10,8 +10,8 @@ use Prim.Native.Nat.{ℕ, _≤_, _<_}
 use native.Mathlib.Omega.{arith}
 use lib.Dec.{ltb}
 use borrow.Author.Tests.{ltb-false, le-ltb}
-use Rattle.outline.specs.Refusals.{numberIf, orElse, slot-number, sheet-lists, sheet-damaged}
-use Rattle.outline.proofs.OrElse.{or-else-none, number-if-none}
+use Rattle.region.specs.Refusals.{numberIf, orElse, slot-number, sheet-lists, sheet-damaged}
+use Rattle.region.proofs.OrElse.{or-else-none, number-if-none}
 use Rattle.layout.specs.Sheet.{Sheet, slots, lastSlot, RightLists, wrongLists}
 use Rattle.layout.specs.Damage.{Undamaged, damaged}
 use Rattle.layout.specs.Changes.{changeNumber, wholeNumber, Changeable}

@@ -18,8 +18,8 @@ use Rattle.plane.specs.Points.{Lines}
 use Rattle.plane.specs.TileSet.{bit}
 use Rattle.plane.proofs.Logic.{or-means}
 use Rattle.plane.proofs.Lists.{getD-tab}
-use Rattle.outline.specs.Region.{Region, Parcel, nothing, outline}
-use Rattle.outline.specs.Rules.{Keeps}
+use Rattle.region.specs.Region.{Region, Parcel, nothing, outline}
+use Rattle.region.specs.Rules.{Keeps}
 use Rattle.relation.specs.Relation.{RegionBox, RegionHas, regionBox, relationOf}
 use Rattle.relation.proofs.Relation.{relation-tile}
 use Rattle.layout.specs.Sheet.{Sheet, slots, relationsLength}

@@ -9,8 +9,8 @@ use Prim.Native.Nat.{ℕ, _<_}
 use lib.Dec.{eqb}
 use lib.IntN.{ℤ}
 use borrow.Author.Tests.{eq-eqb, ne-eqb}
-use Rattle.outline.specs.Region.{Parcel, nothing, outline}
-use Rattle.outline.specs.Rules.{Keeps}
+use Rattle.region.specs.Region.{Parcel, nothing, outline}
+use Rattle.region.specs.Rules.{Keeps}
 use Rattle.relation.specs.Relation.{regionBox, relationOf}
 use Rattle.layout.specs.Sheet.{slots}
 use Rattle.layout.specs.Standing.{ParcelKeeps}

@@ -14,11 +14,11 @@ use lib.ListN.{length}
 use borrow.Author.Tests.{lt-ltb, le-ltb, ltb-true, ltb-false, eq-eqb, ne-eqb}
 use Rattle.plane.specs.Folds.{firstOf}
 use Rattle.plane.proofs.Folds.{first-below, first-passes}
-use Rattle.outline.specs.Region.{Region, mostRings, mostVertices, lastEnd}
-use Rattle.outline.specs.Rules.{Breaks, Keeps}
-use Rattle.outline.specs.Check.{shortAt, someOutside}
-use Rattle.outline.proofs.Keeps.{sized, sized-keeps}
-use Rattle.outline.proofs.Rings.{outside-means, none-outside}
+use Rattle.region.specs.Region.{Region, mostRings, mostVertices, lastEnd}
+use Rattle.region.specs.Rules.{Breaks, Keeps}
+use Rattle.region.specs.Check.{shortAt, someOutside}
+use Rattle.region.proofs.Keeps.{sized, sized-keeps}
+use Rattle.region.proofs.Rings.{outside-means, none-outside}
 use Rattle.layout.specs.Sheet.{slots}
 use Rattle.layout.specs.Standing.{ParcelKeeps}
 use Rattle.layout.specs.Slots.{ringsIn, emptyIn, endsIn, regionIn, inSlot}

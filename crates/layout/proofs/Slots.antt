@@ -16,9 +16,9 @@ use lib.IntN.{ℤ, pos}
 use lib.ListN.{length, getD, take, drop}
 use borrow.Author.Tests.{eqb-true, eq-eqb, ne-eqb}
 use Rattle.plane.specs.Choice.{pick}
-use Rattle.outline.specs.Region.{Region, regionOf, Parcel, nothing, outline, mostRings, mostVertices, lastEnd}
-use Rattle.outline.specs.Rules.{Keeps}
-use Rattle.outline.proofs.Keeps.{keeps-fewer, Sized, sized}
+use Rattle.region.specs.Region.{Region, regionOf, Parcel, nothing, outline, mostRings, mostVertices, lastEnd}
+use Rattle.region.specs.Rules.{Keeps}
+use Rattle.region.proofs.Keeps.{keeps-fewer, Sized, sized}
 use Rattle.layout.specs.Sheet.{Sheet, slots, room, recordLength}
 use Rattle.layout.specs.Standing.{occupied, endList, coordinateList, ParcelKeeps}
 use Rattle.layout.specs.Layout.{recordNumber}

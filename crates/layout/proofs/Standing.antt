@@ -18,8 +18,8 @@ use Rattle.plane.specs.Choice.{pick}
 use Rattle.plane.specs.TileSet.{one-if}
 use Rattle.plane.proofs.Folds.{sum-le}
 use Rattle.plane.proofs.Lists.{length-tab, getD-tab, tab-same}
-use Rattle.outline.specs.Region.{Parcel, nothing, outline, mostRings, mostVertices, lastEnd}
-use Rattle.outline.proofs.Keeps.{keeps-fewer}
+use Rattle.region.specs.Region.{Parcel, nothing, outline, mostRings, mostVertices, lastEnd}
+use Rattle.region.proofs.Keeps.{keeps-fewer}
 use Rattle.layout.specs.Sheet.{sheetOf, slots, room, recordLength, coordinatesLength, recordsLength, relationsLength, RightLists}
 use Rattle.layout.specs.Standing.{occupied, endList, coordinateList, instead, ParcelKeeps, StandTogether, parcelsBelow, ringsBelow, verticesBelow}
 use Rattle.layout.specs.Layout.{recordNumber, cellOf, layout}

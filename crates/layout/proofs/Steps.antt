@@ -20,8 +20,8 @@ use Rattle.plane.specs.Folds.{turns}
 use Rattle.plane.specs.Lists.{stores}
 use Rattle.plane.proofs.Logic.{and-means}
 use Rattle.plane.proofs.Lists.{tab-same}
-use Rattle.outline.specs.Region.{Region, Parcel, nothing, outline, mostRings}
-use Rattle.outline.specs.Rules.{Keeps}
+use Rattle.region.specs.Region.{Region, Parcel, nothing, outline, mostRings}
+use Rattle.region.specs.Rules.{Keeps}
 use Rattle.relation.specs.Relation.{regionBox}
 use Rattle.layout.specs.Sheet.{Sheet, sheetOf, slots, room, recordLength, relationsLength}
 use Rattle.layout.specs.Standing.{endList, coordinateList, instead}

@@ -15,12 +15,12 @@ use lib.ListN.{length}
 use borrow.Author.Tests.{ltb-false, le-ltb, eqb-false}
 use Rattle.plane.specs.Folds.{anyTo}
 use Rattle.plane.proofs.Folds.{any-none}
-use Rattle.outline.specs.Region.{Region, outline, mostRings, mostVertices, lastEnd}
-use Rattle.outline.specs.Rules.{Keeps}
-use Rattle.outline.specs.Check.{breaksAt}
-use Rattle.outline.proofs.Keeps.{keeps-more, keeps-fewer, counted-keeps, listed-keeps}
-use Rattle.outline.proofs.Search.{or-false, none-any}
-use Rattle.outline.proofs.Tests.{keeps-passes, passes-keeps}
+use Rattle.region.specs.Region.{Region, outline, mostRings, mostVertices, lastEnd}
+use Rattle.region.specs.Rules.{Keeps}
+use Rattle.region.specs.Check.{breaksAt}
+use Rattle.region.proofs.Keeps.{keeps-more, keeps-fewer, counted-keeps, listed-keeps}
+use Rattle.region.proofs.Search.{or-false, none-any}
+use Rattle.region.proofs.Tests.{keeps-passes, passes-keeps}
 use Rattle.layout.specs.Sheet.{Sheet, slots, RightLists}
 use Rattle.layout.specs.Standing.{ParcelKeeps, StandTogether}
 use Rattle.layout.specs.Slots.{ringsIn, emptyIn, regionIn, inSlot, parcelAt}

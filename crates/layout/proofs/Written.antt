@@ -17,7 +17,7 @@ use borrow.Author.Tests.{eq-eqb, ne-eqb}
 use Rattle.plane.specs.Choice.{pick}
 use Rattle.plane.specs.Lists.{tab}
 use Rattle.plane.proofs.Lists.{length-tab, getD-tab}
-use Rattle.outline.specs.Region.{Parcel, mostRings}
+use Rattle.region.specs.Region.{Parcel, mostRings}
 use Rattle.layout.specs.Sheet.{Sheet, slots, room, recordLength, coordinatesLength, recordsLength, relationsLength, RightLists}
 use Rattle.layout.specs.Standing.{endList, coordinateList, instead, ParcelKeeps}
 use Rattle.layout.specs.Layout.{recordNumber, cellOf}

@@ -11,7 +11,7 @@ use lib.IntN.{ℤ}
 use lib.ListN.{length, getD, set}
 use Rattle.plane.specs.Choice.{pick}
 use Rattle.plane.specs.declared.Box.{Box}
-use Rattle.outline.specs.Region.{Region, outline}
+use Rattle.region.specs.Region.{Region, outline}
 use Rattle.relation.specs.Relation.{regionBox}
 use Rattle.layout.specs.Sheet.{slots}
 use Rattle.layout.specs.Slots.{emptyIn, regionIn, inSlot}

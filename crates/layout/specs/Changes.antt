@@ -16,8 +16,8 @@ use lib.IntN.{pos}
 use lib.ListN.{length, getD}
 use Rattle.plane.specs.Choice.{pick}
 use Rattle.plane.specs.Lists.{tab}
-use Rattle.outline.specs.Region.{Parcel}
-use Rattle.outline.specs.Refusals.{numberIf, orElse, slot-number, sheet-lists, sheet-damaged}
+use Rattle.region.specs.Region.{Parcel}
+use Rattle.region.specs.Refusals.{numberIf, orElse, slot-number, sheet-lists, sheet-damaged}
 use Rattle.layout.specs.Sheet.{Sheet, slots, lastSlot, room, recordLength, coordinatesLength, recordsLength, relationsLength, RightLists, wrongLists}
 use Rattle.layout.specs.Standing.{endList, coordinateList, instead}
 use Rattle.layout.specs.Layout.{recordNumber, cellOf}

@@ -11,9 +11,9 @@ use lib.Dec.{ltb}
 use lib.IntN.{ℤ}
 use lib.ListN.{length}
 use Rattle.plane.specs.Folds.{anyTo}
-use Rattle.outline.specs.Region.{Region, outline, mostRings, mostVertices, lastEnd}
-use Rattle.outline.specs.Rules.{Breaks}
-use Rattle.outline.specs.Check.{breaksAt}
+use Rattle.region.specs.Region.{Region, outline, mostRings, mostVertices, lastEnd}
+use Rattle.region.specs.Rules.{Breaks}
+use Rattle.region.specs.Check.{breaksAt}
 use Rattle.layout.specs.Sheet.{Sheet, slots}
 use Rattle.layout.specs.Slots.{ringsIn, emptyIn, regionIn, parcelAt}
 

@@ -14,7 +14,7 @@ use lib.IntN.{pos}
 use lib.ListN.{length, getD, replicate}
 use Rattle.plane.specs.Choice.{pick}
 use Rattle.plane.specs.Lists.{tab}
-use Rattle.outline.specs.Region.{Parcel, nothing, outline}
+use Rattle.region.specs.Region.{Parcel, nothing, outline}
 use Rattle.relation.specs.Relation.{regionBox, relationOf}
 use Rattle.layout.specs.Sheet.{Sheet, sheetOf, slots, room, recordLength, coordinatesLength, recordsLength, relationsLength}
 use Rattle.layout.specs.Standing.{endList, coordinateList}

@@ -11,7 +11,7 @@ use lib.Dec.{eqb}
 use lib.IntN.{ℤ}
 use lib.ListN.{getD, take, drop}
 use Rattle.plane.specs.Choice.{pick}
-use Rattle.outline.specs.Region.{Region, regionOf, Parcel, nothing, outline, lastEnd}
+use Rattle.region.specs.Region.{Region, regionOf, Parcel, nothing, outline, lastEnd}
 use Rattle.layout.specs.Sheet.{Sheet, slots, room, recordLength}
 
 unfoldable pub ringsIn : List ℕ → ℕ → ℕ

@@ -14,8 +14,8 @@ use lib.ListN.{length}
 use Rattle.plane.specs.Choice.{pick}
 use Rattle.plane.specs.Folds.{sumTo}
 use Rattle.plane.specs.TileSet.{one-if}
-use Rattle.outline.specs.Region.{Parcel, nothing, outline, lastEnd}
-use Rattle.outline.specs.Rules.{Keeps}
+use Rattle.region.specs.Region.{Parcel, nothing, outline, lastEnd}
+use Rattle.region.specs.Rules.{Keeps}
 use Rattle.layout.specs.Sheet.{slots}
 
 abbrev pub occupied : Parcel → Bool

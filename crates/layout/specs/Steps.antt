@@ -14,7 +14,7 @@ use lib.Dec.{eqb}
 use lib.IntN.{ℤ}
 use lib.ListN.{length, set}
 use Rattle.plane.specs.Choice.{pick}
-use Rattle.outline.specs.Region.{Region, Parcel, nothing, outline, mostRings, mostVertices, lastEnd}
+use Rattle.region.specs.Region.{Region, Parcel, nothing, outline, mostRings, mostVertices, lastEnd}
 use Rattle.layout.specs.Sheet.{Sheet, slots, coordinatesLength, recordsLength}
 use Rattle.layout.specs.Standing.{ParcelKeeps}
 use Rattle.layout.specs.Layout.{cellOf}

@@ -29,9 +29,9 @@ use Rattle.plane.specs.Points.{Lines}
 use Rattle.plane.specs.TileSet.{bit}
 use Rattle.plane.proofs.Logic.{iff-join}
 use Rattle.plane.specs.Lists.{Among}
-use Rattle.outline.specs.Region.{Region}
-use Rattle.outline.proofs.Keeps.{keeps-fewer, Sized, sized}
-use Rattle.outline.proofs.Ends.{start-le}
+use Rattle.region.specs.Region.{Region}
+use Rattle.region.proofs.Keeps.{keeps-fewer, Sized, sized}
+use Rattle.region.proofs.Ends.{start-le}
 use Rattle.relation.specs.Relation.{RegionBox, RegionHas, RegionPieces}
 use Rattle.pair.specs.declared.Answer.{Answer}
 use Rattle.pair.specs.Answer.{given, pairOf}

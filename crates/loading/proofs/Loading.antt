@@ -19,7 +19,7 @@ use lib.ListN.{length}
 use borrow.Author.Tests.{ltb-true, lt-ltb, le-ltb, eqb-true, eq-eqb, ne-eqb}
 use Rattle.plane.specs.Choice.{pick}
 use Rattle.plane.proofs.Folds.{first-hit, first-passes}
-use Rattle.outline.specs.Region.{Parcel, nothing, outline}
+use Rattle.region.specs.Region.{Parcel, nothing, outline}
 use Rattle.layout.specs.Sheet.{Sheet, wrongLists}
 use Rattle.layout.specs.Standing.{instead, ParcelKeeps, StandTogether}
 use Rattle.layout.specs.Layout.{layout, blank}

@@ -3,8 +3,8 @@ use mathlib.Core.Path.{_≡_}
 use mathlib.Core.Logic.{_↔_}
 use mathlib.Core.List.{List}
 use Prim.Native.Nat.{ℕ}
-use Rattle.outline.specs.Refusals.{numberIf, sheet-lists}
-use Rattle.outline.proofs.OrElse.{or-else-none, number-if-none}
+use Rattle.region.specs.Refusals.{numberIf, sheet-lists}
+use Rattle.region.proofs.OrElse.{or-else-none, number-if-none}
 use Rattle.layout.specs.Sheet.{Sheet, RightLists, wrongLists}
 use Rattle.layout.proofs.RightLists.{lists-mean}
 use Rattle.card.specs.Good.{GoodCard}

@@ -5,7 +5,7 @@ use mathlib.Core.Bool.{Bool, true, false}
 use mathlib.Core.List.{List}
 use Prim.Native.Nat.{ℕ}
 use Rattle.plane.specs.Choice.{pick}
-use Rattle.outline.specs.Refusals.{number, numberIf, orElse, sheet-lists}
+use Rattle.region.specs.Refusals.{number, numberIf, orElse, sheet-lists}
 use Rattle.layout.specs.Sheet.{Sheet, wrongLists}
 use Rattle.card.specs.CardNumber.{cardNumber}
 use Rattle.loading.specs.Load.{loadNumber}

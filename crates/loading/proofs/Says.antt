@@ -8,7 +8,7 @@ use Prim.Native.Nat.{ℕ}
 use native.Mathlib.Decide.{ℕ-discrete}
 use Rattle.plane.specs.Choice.{pick}
 use Rattle.plane.proofs.Logic.{clash, is-true}
-use Rattle.outline.specs.Refusals.{number, sheet-lists}
+use Rattle.region.specs.Refusals.{number, sheet-lists}
 use Rattle.layout.specs.Sheet.{Sheet, wrongLists}
 use Rattle.layout.proofs.RightLists.{lists-mean}
 use Rattle.card.specs.CardNumber.{cardNumber}

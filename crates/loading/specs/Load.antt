@@ -4,7 +4,7 @@ use mathlib.Core.List.{List}
 use Prim.Native.Nat.{ℕ}
 use lib.Dec.{eqb}
 use Rattle.plane.specs.Choice.{pick}
-use Rattle.outline.specs.Refusals.{numberIf, orElse, sheet-lists}
+use Rattle.region.specs.Refusals.{numberIf, orElse, sheet-lists}
 use Rattle.layout.specs.Sheet.{Sheet, wrongLists}
 use Rattle.layout.specs.Layout.{layout}
 use Rattle.card.specs.Reading.{parcelIn}

@@ -4,7 +4,7 @@
 --                           what it says of the card
 use mathlib.Core.List.{List}
 use Prim.Native.Nat.{ℕ}
-use Rattle.outline.specs.Refusals.{number, sheet-lists}
+use Rattle.region.specs.Refusals.{number, sheet-lists}
 use Rattle.layout.specs.Sheet.{Sheet, RightLists}
 use Rattle.card.specs.Good.{GoodCard}
 use Rattle.card.specs.Says.{CardSays}

@@ -19,7 +19,7 @@ use Rattle.ring.specs.Tangled.{tangledPair, tangled}
 use Rattle.ring.specs.Turning.{clockwise}
 use Rattle.ring.specs.Enclosed.{eastward, crossesAt, enclosesAt}
 use Rattle.ring.specs.RingTiles.{edgesHave, ringHas, ringPieces}
-use Rattle.outline.specs.Check.{shortAt, outsideIn, breaksAt, firstBreaking, shapeOf, checkOf}
+use Rattle.region.specs.Check.{shortAt, outsideIn, breaksAt, firstBreaking, shapeOf, checkOf}
 use Rattle.relation.specs.Relation.{regionBox, regionHas, relationOf, regionPieces}
 use Rattle.matrix.specs.Holding.{insert, linesOf, cellAt, rangeOf, holds}
 use Rattle.matrix.specs.Matrix.{cellValue, matrixOf, flatOf}

@@ -8,7 +8,7 @@ use mathlib.Core.Bool.{Bool, true, false}
 use mathlib.Core.List.{List, [], _∷_}
 use Prim.Native.Nat.{ℕ}
 use lib.IntN.{pos, negsuc}
-use Rattle.outline.specs.Region.{Region, regionOf}
+use Rattle.region.specs.Region.{Region, regionOf}
 use Rattle.pair.specs.declared.Answer.{Answer}
 use Rattle.pair.specs.Answer.{refusedWith}
 

@@ -16,7 +16,7 @@ use lib.IntN.{ℤ}
 use Rattle.plane.specs.Points.{Lines}
 use Rattle.plane.specs.Placed.{LinesInRange, Upright, boxOf}
 use Rattle.plane.proofs.Logic.{iff-join}
-use Rattle.outline.specs.Region.{Region}
+use Rattle.region.specs.Region.{Region}
 use Rattle.relation.specs.Relation.{RegionBox, RegionHas, regionBox}
 use Rattle.relation.proofs.Regions.{lines-in-range, region-box-is, region-upright}
 use Rattle.relation.proofs.Spread.{wide, high}

@@ -12,7 +12,7 @@ use lib.IntN.{ℤ}
 use Rattle.plane.specs.Points.{Lines}
 use Rattle.plane.specs.TileSet.{bit}
 use Rattle.plane.proofs.Logic.{iff-join}
-use Rattle.outline.specs.Region.{Region}
+use Rattle.region.specs.Region.{Region}
 use Rattle.relation.specs.Relation.{RegionBox, RegionHas}
 use Rattle.matrix.specs.Grid.{Cell}
 use Rattle.matrix.specs.Holding.{HoldsWhere}

@@ -15,7 +15,7 @@ use Rattle.plane.specs.Lists.{tabFrom}
 use Rattle.plane.specs.TileSet.{setOf, bit}
 use Rattle.plane.proofs.Logic.{iff-join, iff-turn, iff-not, both, eq-means, not-means}
 use Rattle.plane.proofs.TileSet.{set-lt, set-means, set-same}
-use Rattle.outline.specs.Region.{Region}
+use Rattle.region.specs.Region.{Region}
 use Rattle.relation.specs.Relation.{regionBox, relationOf}
 use Rattle.matrix.specs.Matrix.{threeRows}
 use Rattle.compass.specs.Directions.{Direction, holdsFirst, directed, directionsOf, opposite}

@@ -15,13 +15,13 @@ use native.Mathlib.Omega.{arith}
 use borrow.Author.Tests.{ne-eqb}
 use Rattle.plane.specs.Points.{Lines}
 use Rattle.plane.specs.TileSet.{bit}
-use Rattle.outline.specs.declared.Checked.{Checked}
-use Rattle.outline.specs.declared.Checked.the-variants.{Accepted, Refused}
-use Rattle.outline.specs.Region.{Region, lastEnd}
-use Rattle.outline.specs.Rules.{Keeps}
-use Rattle.outline.specs.Check.{checkOf}
-use Rattle.outline.proofs.Keeps.{keeps-fewer}
-use Rattle.outline.proofs.Check.{accepted-means, refused-means}
+use Rattle.region.specs.declared.Checked.{Checked}
+use Rattle.region.specs.declared.Checked.the-variants.{Accepted, Refused}
+use Rattle.region.specs.Region.{Region, lastEnd}
+use Rattle.region.specs.Rules.{Keeps}
+use Rattle.region.specs.Check.{checkOf}
+use Rattle.region.proofs.Keeps.{keeps-fewer}
+use Rattle.region.proofs.Check.{accepted-means, refused-means}
 use Rattle.relation.specs.Relation.{RegionBox, RegionHas, RegionPieces, regionBox, relationOf, regionSeen}
 use Rattle.relation.proofs.Regions.{region-upright}
 use Rattle.relation.proofs.Relation.{relation-tile, pieces-count, region-pieces-le, relation-lt}

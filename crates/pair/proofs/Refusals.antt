@@ -9,13 +9,13 @@ use mathlib.Core.Path.{_≡_, refl, sym, _∙_, ap}
 use mathlib.Core.Logic.{_↔_, _⊎_, _≢_, inl, inr, ⊎-elim}
 use Prim.Native.Nat.{ℕ, _≤_}
 use native.Mathlib.Omega.{arith}
-use Rattle.outline.specs.declared.Checked.{Checked}
-use Rattle.outline.specs.declared.Checked.the-variants.{Accepted, Refused}
-use Rattle.outline.specs.Region.{Region}
-use Rattle.outline.specs.Rules.{KeepsRules}
-use Rattle.outline.specs.Check.{checkOf}
-use Rattle.outline.proofs.Keeps.{broken-number}
-use Rattle.outline.proofs.Check as check
+use Rattle.region.specs.declared.Checked.{Checked}
+use Rattle.region.specs.declared.Checked.the-variants.{Accepted, Refused}
+use Rattle.region.specs.Region.{Region}
+use Rattle.region.specs.Rules.{KeepsRules}
+use Rattle.region.specs.Check.{checkOf}
+use Rattle.region.proofs.Keeps.{broken-number}
+use Rattle.region.proofs.Check as check
 use Rattle.pair.specs.declared.Answer.{Answer}
 use Rattle.pair.specs.Answer.{refusedWith, given, pairOf}
 use Rattle.pair.specs.Meaning.{Answered, RefusedPair}

@@ -19,7 +19,7 @@ use Rattle.plane.specs.TileSet.{bit, one-if}
 use Rattle.plane.specs.Tiles.{columnOf, rowOf}
 use Rattle.plane.specs.declared.Box.{Box}
 use Rattle.plane.proofs.Logic.{and-means}
-use Rattle.outline.specs.Region.{Region}
+use Rattle.region.specs.Region.{Region}
 use Rattle.relation.specs.Relation.{regionBox, relationOf}
 use Rattle.relation.proofs.Regions.{region-upright}
 use Rattle.relation.proofs.Spread.{wide, high}

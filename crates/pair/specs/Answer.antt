@@ -18,11 +18,11 @@ use lib.ListN.{replicate}
 use Rattle.plane.specs.Choice.{pick}
 use Rattle.plane.specs.declared.Box.{Box}
 use Rattle.seen.specs.declared.Seen.{Seen}
-use Rattle.outline.specs.declared.Checked.{Checked}
-use Rattle.outline.specs.declared.Checked.the-variants.{Accepted, Refused}
-use Rattle.outline.specs.Refusals.{number, no-tile}
-use Rattle.outline.specs.Region.{Region}
-use Rattle.outline.specs.Check.{checkOf}
+use Rattle.region.specs.declared.Checked.{Checked}
+use Rattle.region.specs.declared.Checked.the-variants.{Accepted, Refused}
+use Rattle.region.specs.Refusals.{number, no-tile}
+use Rattle.region.specs.Region.{Region}
+use Rattle.region.specs.Check.{checkOf}
 use Rattle.relation.specs.Relation.{regionBox, regionSeen}
 use Rattle.matrix.specs.Holding.{rowCount, columnCount}
 use Rattle.matrix.specs.Matrix.{matrixOf, flatOf}

@@ -13,8 +13,8 @@ use Prim.Native.Nat.{ℕ, _+_, _*_, _/_, _%_}
 use lib.IntN.{ℤ}
 use lib.ListN.{getD}
 use Rattle.plane.specs.Points.{Lines}
-use Rattle.outline.specs.Region.{Region}
-use Rattle.outline.specs.Rules.{KeepsRules, RefusedWith}
+use Rattle.region.specs.Region.{Region}
+use Rattle.region.specs.Rules.{KeepsRules, RefusedWith}
 use Rattle.relation.specs.Relation.{RegionHas}
 use Rattle.matrix.specs.Grid.{Cell}
 use Rattle.matrix.specs.Holding.{HoldsWhere}

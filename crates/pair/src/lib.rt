@@ -1,16 +1,16 @@
 // Two regions: the pair answer.
 ghost use mathlib.Core.Path.{_≡_};
-ghost use Rattle.outline.specs.Region.{regionOf};
-ghost use Rattle.outline.specs.Rules.{Keeps};
+ghost use Rattle.region.specs.Region.{regionOf};
+ghost use Rattle.region.specs.Rules.{Keeps};
 ghost use Rattle.pair.specs.Answer.{refusedWith, orRefused, given, answerOf, pairOf, aroundOf, reportWords};
 use compass::directions_of;
 use matrix::flat_of;
 use matrix::grid_of;
 use matrix::matrix_of;
-use outline::Checked;
 use outline::check_region;
-use outline::refusals::NO_TILE;
 use plane::Box;
+use region::Checked;
+use region::refusals::NO_TILE;
 use relation::region_box;
 use relation::region_seen;
 use seen::Seen;

@@ -7,7 +7,7 @@ ghost use lib.IntN.{pos};
 ghost use lib.ListN.{length, getD};
 ghost use Rattle.plane.specs.Folds.{turns};
 ghost use Rattle.plane.specs.Lists.{stores};
-ghost use Rattle.outline.specs.Region.{regionOf, mostRings};
+ghost use Rattle.region.specs.Region.{regionOf, mostRings};
 ghost use Rattle.layout.specs.Sheet.{sheetOf, slots, room, recordLength, coordinatesLength, recordsLength, relationsLength};
 ghost use Rattle.layout.specs.Layout.{recordNumber};
 ghost use Rattle.layout.specs.Changes.{withParcel};

@@ -31,10 +31,10 @@ use Rattle.ring.specs.RingBox.{stretchBox}
 use Rattle.ring.specs.Repeated.{equalEnds}
 use Rattle.ring.specs.RingTiles.{ringHas, ringPieces}
 use Rattle.ring.proofs.OneTile.{RingIn, in-tile-has, in-tile-only, in-tile-pieces}
-use Rattle.outline.specs.Region.{Region, startOf, sizeOf, lastEnd}
-use Rattle.outline.specs.Rules.{Keeps}
-use Rattle.outline.proofs.Ends.{size-least, ring-in-last}
-use Rattle.outline.proofs.Keeps.{keeps-fewer, Sized, sized}
+use Rattle.region.specs.Region.{Region, startOf, sizeOf, lastEnd}
+use Rattle.region.specs.Rules.{Keeps}
+use Rattle.region.proofs.Ends.{size-least, ring-in-last}
+use Rattle.region.proofs.Keeps.{keeps-fewer, Sized, sized}
 use Rattle.relation.specs.Relation.{regionBox, regionHas, relationOf, regionPieces, regionSeen}
 use Rattle.relation.specs.OneTile.{linesBefore, linesUpTo, tileAround, tileHolding}
 

@@ -20,10 +20,10 @@ use Rattle.ring.specs.RingBox.{stretchBox}
 use Rattle.ring.specs.Turning.{clockwise}
 use Rattle.ring.proofs.Turning.{clockwise-means}
 use Rattle.ring.proofs.Positive.{positive}
-use Rattle.outline.specs.Region.{Region, sizeOf, lastEnd}
-use Rattle.outline.specs.Rules.{Keeps, KeepsRules}
-use Rattle.outline.proofs.Ends.{ring-in-last}
-use Rattle.outline.proofs.Keeps.{keeps-fewer, Sized, sized, in-range}
+use Rattle.region.specs.Region.{Region, sizeOf, lastEnd}
+use Rattle.region.specs.Rules.{Keeps, KeepsRules}
+use Rattle.region.proofs.Ends.{ring-in-last}
+use Rattle.region.proofs.Keeps.{keeps-fewer, Sized, sized, in-range}
 use Rattle.relation.specs.Relation.{RegionBox, regionBox}
 use Rattle.relation.proofs.Regions.{lines-in-range, region-box-is}
 

@@ -37,10 +37,10 @@ use Rattle.ring.specs.RingBox.{stretchBox}
 use Rattle.ring.specs.RingTiles.{edgesHave, ringHas}
 use Rattle.ring.specs.Turning.{forward, backward, clockwise}
 use Rattle.ring.proofs.Edges.{next-lt, cycle}
-use Rattle.outline.specs.Region.{Region, startOf, sizeOf, lastEnd}
-use Rattle.outline.specs.Rules.{KeepsRules}
-use Rattle.outline.proofs.Ends.{ring-in-last}
-use Rattle.outline.proofs.Keeps.{keeps-fewer, Sized, sized}
+use Rattle.region.specs.Region.{Region, startOf, sizeOf, lastEnd}
+use Rattle.region.specs.Rules.{KeepsRules}
+use Rattle.region.proofs.Ends.{ring-in-last}
+use Rattle.region.proofs.Keeps.{keeps-fewer, Sized, sized}
 use Rattle.relation.specs.Relation.{regionBox, regionHas, relationOf}
 use Rattle.relation.proofs.Spread.{first-clockwise}
 

@@ -11,7 +11,7 @@ use Rattle.plane.specs.declared.Box.{Box}
 use Rattle.edge.specs.Walk.{tileOf}
 use Rattle.ring.specs.Edges.{ringEdge}
 use Rattle.ring.specs.Repeated.{equalEnds}
-use Rattle.outline.specs.Region.{Region, sizeOf}
+use Rattle.region.specs.Region.{Region, sizeOf}
 
 unfoldable pub linesBefore : (lo hi x : ℕ) → ℕ
 linesBefore lo hi x = one-if (ltb lo x) + one-if (ltb hi x)

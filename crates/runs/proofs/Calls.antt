@@ -12,7 +12,7 @@ use mathlib.Core.List.{List}
 use Prim.Native.Nat.{ℕ, _<_}
 use native.Mathlib.Omega.{arith}
 use borrow.Author.Tests.{eq-eqb}
-use Rattle.outline.specs.Region.{Region}
+use Rattle.region.specs.Region.{Region}
 use Rattle.layout.specs.Sheet.{Sheet, slots, RightLists}
 use Rattle.layout.specs.Standing.{StandTogether}
 use Rattle.layout.specs.Layout.{layout, blank}

@@ -8,7 +8,7 @@ use Prim.Native.Nat.{ℕ, _<_}
 use native.Mathlib.Omega.{arith}
 use lib.ListN.{getD}
 use borrow.Author.Tests.{eq-eqb}
-use Rattle.outline.specs.Region.{Parcel}
+use Rattle.region.specs.Region.{Parcel}
 use Rattle.layout.specs.Sheet.{Sheet, slots, wrongLists}
 use Rattle.layout.specs.Standing.{StandTogether}
 use Rattle.layout.specs.Layout.{layout}

@@ -13,9 +13,9 @@ use lib.Dec.{eqb}
 use borrow.Author.Tests.{eq-eqb, ne-eqb}
 use Rattle.plane.specs.Points.{Lines}
 use Rattle.plane.specs.TileSet.{bit}
-use Rattle.outline.specs.Region.{Region, Parcel, nothing, outline}
-use Rattle.outline.specs.Rules.{KeepsRules}
-use Rattle.outline.proofs.Keeps.{keeps-fewer}
+use Rattle.region.specs.Region.{Region, Parcel, nothing, outline}
+use Rattle.region.specs.Rules.{KeepsRules}
+use Rattle.region.proofs.Keeps.{keeps-fewer}
 use Rattle.relation.specs.Relation.{RegionBox, RegionHas, regionBox, relationOf}
 use Rattle.relation.proofs.Relation.{relation-tile}
 use Rattle.compass.specs.Directions.{opposite}

@@ -18,7 +18,7 @@ use Rattle.plane.specs.Folds.{sumTo, firstOf}
 use Rattle.plane.specs.TileSet.{one-if}
 use Rattle.plane.proofs.Folds.{first-below, first-passes}
 use Rattle.plane.proofs.Lists.{getD-tab}
-use Rattle.outline.specs.Region.{Parcel, nothing, outline, lastEnd}
+use Rattle.region.specs.Region.{Parcel, nothing, outline, lastEnd}
 use Rattle.layout.specs.Sheet.{slots}
 use Rattle.layout.specs.Standing.{occupied, endList, coordinateList, parcelsBelow, ringsBelow, verticesBelow}
 use Rattle.endian.specs.Bytes.{u16At, i32At, u16Bytes, i32Bytes, joined}

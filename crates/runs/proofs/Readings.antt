@@ -17,7 +17,7 @@ use lib.ListN.{length, getD}
 use borrow.Author.Tests.{eqb-true, eqb-false}
 use Rattle.plane.specs.Points.{Lines}
 use Rattle.plane.specs.TileSet.{bit}
-use Rattle.outline.specs.Region.{Region, Parcel, nothing, outline}
+use Rattle.region.specs.Region.{Region, Parcel, nothing, outline}
 use Rattle.relation.specs.Relation.{RegionBox, RegionHas}
 use Rattle.layout.specs.Sheet.{Sheet, slots, RightTables}
 use Rattle.layout.specs.Standing.{occupied}

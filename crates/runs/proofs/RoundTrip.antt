@@ -13,9 +13,9 @@ use Rattle.plane.specs.Choice.{pick}
 use Rattle.plane.specs.Folds.{sumTo}
 use Rattle.plane.specs.TileSet.{one-if}
 use Rattle.plane.proofs.Folds.{first-hit, first-none}
-use Rattle.outline.specs.Region.{Region, Parcel, nothing, outline, lastEnd}
-use Rattle.outline.specs.Rules.{KeepsRules}
-use Rattle.outline.proofs.Keeps.{Sized}
+use Rattle.region.specs.Region.{Region, Parcel, nothing, outline, lastEnd}
+use Rattle.region.specs.Rules.{KeepsRules}
+use Rattle.region.proofs.Keeps.{Sized}
 use Rattle.layout.specs.Sheet.{slots}
 use Rattle.layout.specs.Standing.{occupied, StandTogether, parcelsBelow, ringsBelow, verticesBelow}
 use Rattle.card.specs.Layout.{parcelsAt, ringsAt, verticesAt}

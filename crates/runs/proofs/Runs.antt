@@ -16,9 +16,9 @@ use Rattle.plane.specs.Choice.{pick}
 use Rattle.plane.specs.Folds.{turns}
 use Rattle.plane.proofs.Logic.{never, clash, is-false, and-means}
 use Rattle.plane.proofs.Folds.{first-passes}
-use Rattle.outline.specs.Region.{Region, Parcel, nothing, outline}
-use Rattle.outline.specs.Check.{checkOf, numberOf}
-use Rattle.outline.proofs.Check.{accepted-number}
+use Rattle.region.specs.Region.{Region, Parcel, nothing, outline}
+use Rattle.region.specs.Check.{checkOf, numberOf}
+use Rattle.region.proofs.Check.{accepted-number}
 use Rattle.layout.specs.Sheet.{Sheet, slots}
 use Rattle.layout.specs.Standing.{occupied, instead, ParcelKeeps, StandTogether}
 use Rattle.layout.specs.Layout.{layout, blank}

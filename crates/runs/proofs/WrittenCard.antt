@@ -16,9 +16,9 @@ use Rattle.plane.specs.Folds.{sumTo}
 use Rattle.plane.specs.TileSet.{one-if}
 use Rattle.plane.proofs.Place.{mag-in}
 use Rattle.plane.proofs.Lists.{tab-all}
-use Rattle.outline.specs.Region.{Region, regionOf, Parcel, nothing, outline, lastEnd}
-use Rattle.outline.specs.Rules.{KeepsRules}
-use Rattle.outline.proofs.Keeps.{keeps-fewer, Sized, sized, end-small}
+use Rattle.region.specs.Region.{Region, regionOf, Parcel, nothing, outline, lastEnd}
+use Rattle.region.specs.Rules.{KeepsRules}
+use Rattle.region.proofs.Keeps.{keeps-fewer, Sized, sized, end-small}
 use Rattle.relation.proofs.Regions.{region-in-range}
 use Rattle.layout.specs.Sheet.{slots}
 use Rattle.layout.specs.Standing.{occupied, endList, coordinateList, StandTogether, parcelsBelow, ringsBelow, verticesBelow}

@@ -5,7 +5,7 @@
 --                      an empty sheet: every number was 0, or a clearing had answered 0
 use mathlib.Core.List.{List, [], _∷_}
 use Prim.Native.Nat.{ℕ}
-use Rattle.outline.specs.Region.{regionOf}
+use Rattle.region.specs.Region.{regionOf}
 use Rattle.layout.specs.Sheet.{Sheet, sheetOf}
 use Rattle.layout.specs.Layout.{blank}
 use Rattle.sheet.proofs.put.Reads as put-reads

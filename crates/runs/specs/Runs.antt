@@ -19,9 +19,9 @@ use Prim.Native.Nat.{ℕ, _<_}
 use lib.Dec.{ltb, eqb}
 use Rattle.plane.specs.Choice.{pick}
 use Rattle.plane.specs.Folds.{turns}
-use Rattle.outline.specs.Region.{Region, Parcel, nothing, outline}
-use Rattle.outline.specs.Rules.{KeepsRules}
-use Rattle.outline.specs.Check.{checkOf, numberOf}
+use Rattle.region.specs.Region.{Region, Parcel, nothing, outline}
+use Rattle.region.specs.Rules.{KeepsRules}
+use Rattle.region.specs.Check.{checkOf, numberOf}
 use Rattle.layout.specs.Sheet.{Sheet, slots}
 use Rattle.layout.specs.Standing.{instead}
 use Rattle.layout.specs.Layout.{blank}

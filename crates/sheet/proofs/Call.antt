@@ -17,8 +17,8 @@ use Prim.Native.Nat.{ℕ, _≤_, _<_}
 use borrow.Author.Tests.{eq-eqb, ne-eqb}
 use Rattle.plane.specs.Points.{Lines}
 use Rattle.plane.specs.TileSet.{bit}
-use Rattle.outline.specs.Region.{Region, regionOf, nothing, outline}
-use Rattle.outline.proofs.Keeps.{broken-number}
+use Rattle.region.specs.Region.{Region, regionOf, nothing, outline}
+use Rattle.region.proofs.Keeps.{broken-number}
 use Rattle.relation.specs.Relation.{RegionBox, RegionHas}
 use Rattle.layout.specs.Sheet.{Sheet, sheetOf, slots}
 use Rattle.layout.specs.Standing.{instead}

@@ -1,14 +1,14 @@
 // The calls that change a sheet, which has slots for parcels and keeps every relation. A call answers 0, or the number that refuses it; a
 // refusal leaves the three lists as they were found.
 ghost use mathlib.Core.Path.{_≡_};
-ghost use Rattle.outline.specs.Region.{regionOf};
+ghost use Rattle.region.specs.Region.{regionOf};
 ghost use Rattle.layout.specs.Sheet.{sheetOf};
 ghost use Rattle.calls.specs.Changes.{putNumber, put, removeNumber, remove, clearNumber, clear};
 use outline::check_region;
 use outline::number_of;
-use outline::refusals::SHEET_LISTS;
-use outline::refusals::SLOT_EMPTY;
 use placing::writing::write_parcel;
+use region::refusals::SHEET_LISTS;
+use region::refusals::SLOT_EMPTY;
 use storage::lists::clear_lists;
 use storage::lists::wrong_lists;
 use storage::refused::change_number;

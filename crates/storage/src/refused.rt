@@ -12,14 +12,14 @@ use crate::slots::outline_at;
 use crate::slots::ring_count;
 use layout::lists::LAST_SLOT;
 use layout::lists::SLOTS;
-use outline::MOST_RINGS;
-use outline::MOST_VERTICES;
 use outline::first_short;
 use outline::last_end;
-use outline::refusals::SHEET_DAMAGED;
-use outline::refusals::SHEET_LISTS;
-use outline::refusals::SLOT_NUMBER;
 use outline::some_outside;
+use region::MOST_RINGS;
+use region::MOST_VERTICES;
+use region::refusals::SHEET_DAMAGED;
+use region::refusals::SHEET_LISTS;
+use region::refusals::SLOT_NUMBER;
 
 // Ring count, ends, last end, coordinates: each is looked at only where those before it are good, so nothing is read past its room.
 fn slot_damaged(xs: &[i32], records: &[u16], slot: usize) -> bool

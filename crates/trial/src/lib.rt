@@ -2,14 +2,14 @@
 // The relations ask of their caller what the library's own callers are proved to keep; the others take any input.
 ghost use mathlib.Core.Path.{_≡_};
 ghost use Rattle.plane.specs.Placed.{BoxInPlaces, Upright};
-ghost use Rattle.outline.specs.Region.{regionOf};
-ghost use Rattle.outline.specs.Rules.{Keeps};
+ghost use Rattle.region.specs.Region.{regionOf};
+ghost use Rattle.region.specs.Rules.{Keeps};
 ghost use Rattle.relation.specs.Relation.{regionBox};
 ghost use Rattle.trial.specs.Given.{boxWith};
-use outline::Checked;
 use outline::check_region;
 use pair::pair_of;
 use plane::Box;
+use region::Checked;
 use relation::region_box;
 use relation::region_seen;
 

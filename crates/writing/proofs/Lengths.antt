@@ -12,7 +12,7 @@ use lib.IntN.{pos}
 use Rattle.plane.specs.Folds.{sumTo}
 use Rattle.plane.specs.TileSet.{one-if}
 use Rattle.plane.proofs.Folds.{sum-same}
-use Rattle.outline.specs.Region.{Parcel, lastEnd}
+use Rattle.region.specs.Region.{Parcel, lastEnd}
 use Rattle.layout.specs.Sheet.{slots}
 use Rattle.layout.specs.Standing.{occupied, endList, coordinateList, parcelsBelow, ringsBelow, verticesBelow}
 use Rattle.endian.specs.Bytes.{u16Bytes, i32Bytes}

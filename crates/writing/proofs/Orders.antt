@@ -8,8 +8,8 @@ use Prim.Native.Nat.{ℕ}
 use lib.Dec.{ltb}
 use lib.ListN.{length}
 use Rattle.plane.specs.Choice.{pick}
-use Rattle.outline.specs.Region.{Parcel}
-use Rattle.outline.specs.Refusals.{number, numberIf, orElse, sheet-lists, sheet-damaged, buffer-short}
+use Rattle.region.specs.Region.{Parcel}
+use Rattle.region.specs.Refusals.{number, numberIf, orElse, sheet-lists, sheet-damaged, buffer-short}
 use Rattle.layout.specs.Sheet.{Sheet, slots, wrongLists}
 use Rattle.layout.specs.Standing.{parcelsBelow, ringsBelow, verticesBelow}
 use Rattle.layout.specs.Slots.{parcelAt}

@@ -10,7 +10,7 @@ use lib.IntN.{ℤ}
 use lib.ListN.{length}
 use Rattle.plane.specs.TileSet.{one-if}
 use Rattle.plane.proofs.Folds.{sum-same}
-use Rattle.outline.specs.Region.{lastEnd}
+use Rattle.region.specs.Region.{lastEnd}
 use Rattle.layout.specs.Sheet.{slots}
 use Rattle.layout.specs.Standing.{occupied, endList, parcelsBelow, ringsBelow, verticesBelow}
 use Rattle.layout.specs.Slots.{ringsIn, emptyIn, endsIn, inSlot}

@@ -10,7 +10,7 @@ use lib.ListN.{length}
 use borrow.Author.Tests.{ltb-true, ltb-false, lt-ltb, le-ltb}
 use Rattle.plane.specs.Choice.{pick}
 use Rattle.plane.proofs.Logic.{clash, is-true}
-use Rattle.outline.specs.Refusals.{number, numberIf, buffer-short, sheet-lists, sheet-damaged}
+use Rattle.region.specs.Refusals.{number, numberIf, buffer-short, sheet-lists, sheet-damaged}
 use Rattle.layout.specs.Sheet.{Sheet, wrongLists}
 use Rattle.layout.specs.Slots.{parcelAt}
 use Rattle.layout.specs.Damage.{damaged}

@@ -13,9 +13,9 @@ use lib.Dec.{ltb}
 use lib.IntN.{ℤ}
 use lib.ListN.{length}
 use borrow.Author.Tests.{lt-ltb, le-ltb, ne-eqb}
-use Rattle.outline.specs.Region.{Parcel}
-use Rattle.outline.specs.Refusals.{numberIf, buffer-short}
-use Rattle.outline.proofs.OrElse.{or-else-first, or-else-next}
+use Rattle.region.specs.Region.{Parcel}
+use Rattle.region.specs.Refusals.{numberIf, buffer-short}
+use Rattle.region.proofs.OrElse.{or-else-first, or-else-next}
 use Rattle.layout.specs.Sheet.{Sheet, slots}
 use Rattle.layout.specs.Standing.{StandTogether, parcelsBelow, ringsBelow, verticesBelow}
 use Rattle.layout.specs.Slots.{inSlot, parcelAt}

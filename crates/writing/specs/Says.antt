@@ -4,7 +4,7 @@
 use mathlib.Core.List.{List}
 use Prim.Native.Nat.{ℕ, _≤_, _<_}
 use lib.ListN.{length}
-use Rattle.outline.specs.Refusals.{number, buffer-short, sheet-lists, sheet-damaged}
+use Rattle.region.specs.Refusals.{number, buffer-short, sheet-lists, sheet-damaged}
 use Rattle.layout.specs.Sheet.{Sheet, RightLists}
 use Rattle.layout.specs.Slots.{parcelAt}
 use Rattle.layout.specs.Damage.{Undamaged}

@@ -10,7 +10,7 @@ use lib.IntN.{ℤ}
 use lib.ListN.{length}
 use Rattle.plane.specs.Folds.{sumTo}
 use Rattle.plane.specs.TileSet.{one-if}
-use Rattle.outline.specs.Region.{mostVertices, lastEnd}
+use Rattle.region.specs.Region.{mostVertices, lastEnd}
 use Rattle.layout.specs.Sheet.{slots}
 use Rattle.layout.specs.Slots.{ringsIn, emptyIn, endsIn, coordinatesIn}
 use Rattle.layout.specs.Steps.{Counted}

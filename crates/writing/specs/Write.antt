@@ -12,8 +12,8 @@ use Prim.Native.Nat.{ℕ, _*_}
 use lib.Dec.{ltb, eqb}
 use lib.ListN.{length, drop}
 use Rattle.plane.specs.Choice.{pick}
-use Rattle.outline.specs.Region.{Parcel, lastEnd}
-use Rattle.outline.specs.Refusals.{numberIf, orElse, buffer-short}
+use Rattle.region.specs.Region.{Parcel, lastEnd}
+use Rattle.region.specs.Refusals.{numberIf, orElse, buffer-short}
 use Rattle.layout.specs.Sheet.{Sheet, slots}
 use Rattle.layout.specs.Standing.{occupied, endList, coordinateList, parcelsBelow, ringsBelow, verticesBelow}
 use Rattle.layout.specs.Slots.{parcelAt}

@@ -3,7 +3,7 @@ ghost use mathlib.Core.Path.{_≡_};
 ghost use Rattle.layout.specs.Sheet.{sheetOf};
 ghost use Rattle.writing.specs.Write.{written, write};
 use card::PARCELS_AT;
-use outline::refusals::BUFFER_SHORT;
+use region::refusals::BUFFER_SHORT;
 use steps::count_all;
 use steps::put_card;
 use storage::refused::whole_number;

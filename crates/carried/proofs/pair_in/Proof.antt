@@ -4,7 +4,7 @@ use native.Mathlib.Omega.{arith}
 use mathlib.Core.List.{List}
 use lib.ListN.{length, take, drop}
 use borrow.Author.Needs.{needs}
-use Rattle.outline.specs.Region.{regionOf}
+use Rattle.region.specs.Region.{regionOf}
 use Rattle.pair.specs.Answer.{pairOf}
 use Rattle.card.specs.Reading.{endsAt, numbersAt}
 use Rattle.card.specs.Right.{RightVertices}

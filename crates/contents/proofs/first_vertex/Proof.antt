@@ -1,6 +1,6 @@
 use Prim.Native.Nat.{_-_}
 use native.Mathlib.Omega.{arith}
-use Rattle.outline.specs.Region.{lastEnd}
+use Rattle.region.specs.Region.{lastEnd}
 use Rattle.card.specs.Reading.{endsAt, firstVertex}
 use Rattle.card.proofs.Tests.{header-means}
 use Rattle.card.proofs.Bounds.{low-last}

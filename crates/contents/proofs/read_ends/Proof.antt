@@ -4,7 +4,7 @@ use Prim.Native.Nat.{ℕ, _+_, _*_, _≤_, _-_}
 use native.Mathlib.Omega.{arith}
 use lib.ListN.{length, drop}
 use Rattle.plane.specs.Lists.{tab}
-use Rattle.outline.specs.Region.{mostRings}
+use Rattle.region.specs.Region.{mostRings}
 use Rattle.endian.specs.Bytes.{u16At}
 use Rattle.card.specs.Layout.{cardParcels, cardRings, ringsAt, verticesAt}
 use Rattle.card.specs.Reading.{parcelCount, firstRing, endsAt}

@@ -7,7 +7,7 @@ use lib.ListN.{length, drop}
 use mir.Facts.{toZ-ofZ}
 use mir.Syntax.{w32}
 use Rattle.plane.specs.Lists.{tab}
-use Rattle.outline.specs.Region.{mostVertices}
+use Rattle.region.specs.Region.{mostVertices}
 use Rattle.endian.specs.Bytes.{i32At}
 use Rattle.card.specs.Layout.{cardParcels, cardRings, cardVertices, verticesAt, lengthOf}
 use Rattle.card.specs.Reading.{parcelCount, ringCount, firstVertex, numbersAt}

@@ -1,6 +1,6 @@
 use mathlib.Core.Path.{_∙_, ap}
 use native.Mathlib.Omega.{arith}
-use Rattle.outline.specs.Region.{lastEnd}
+use Rattle.region.specs.Region.{lastEnd}
 use Rattle.card.proofs.Bounds.{ends-read, entry-few}
 use borrow.Author.Needs.{needs}
 use Rattle.contents.proofs.vertices_of.Statement.{statement}

@@ -4,9 +4,9 @@ use Prim.Native.Nat.{ℕ, _-_, _≤_}
 use native.Mathlib.Omega.{arith}
 use lib.IntN.{ℤ}
 use lib.ListN.{length, take, drop}
-use Rattle.outline.specs.Region.{Region, Parcel, regionOf}
-use Rattle.outline.specs.Rules.{Keeps}
-use Rattle.outline.proofs.Keeps.{keeps-fewer}
+use Rattle.region.specs.Region.{Region, Parcel, regionOf}
+use Rattle.region.specs.Rules.{Keeps}
+use Rattle.region.proofs.Keeps.{keeps-fewer}
 use Rattle.layout.specs.Sheet.{Sheet, sheetOf}
 use Rattle.layout.specs.Changes.{withParcel}
 use Rattle.layout.specs.Steps.{Ready, parcelOf}

@@ -4,7 +4,7 @@ use mathlib.Core.List.{List}
 use Prim.Native.Nat.{ℕ, _≤_, _<_, _-_}
 use native.Mathlib.Omega.{arith}
 use lib.ListN.{length}
-use Rattle.outline.specs.Region.{outline}
+use Rattle.region.specs.Region.{outline}
 use Rattle.layout.specs.Sheet.{Sheet, sheetOf}
 use Rattle.layout.specs.Layout.{layout}
 use Rattle.layout.specs.Changes.{withParcel}

@@ -7,9 +7,9 @@ use borrow.Author.Needs.{needs}
 use borrow.Author.Tests.{lt-ltb}
 use Rattle.simple.specs.declared.Faults.{Faults}
 use Rattle.simple.specs.Faults.{faultsOf}
-use Rattle.outline.specs.Region.{Region, regionOf}
-use Rattle.outline.specs.Check.{outsideIn, ofRing, breaksAt}
-use Rattle.outline.proofs.Keeps.{keeps-fewer, Sized, sized, ring-order, ring-room}
+use Rattle.region.specs.Region.{Region, regionOf}
+use Rattle.region.specs.Check.{outsideIn, ofRing, breaksAt}
+use Rattle.region.proofs.Keeps.{keeps-fewer, Sized, sized, ring-order, ring-room}
 use Rattle.outline.proofs.breaks_rule.Statement.{statement}
 use Rattle.outline.proofs.breaks_rule.Tie as tie
 

@@ -3,10 +3,10 @@ use mathlib.Core.Path.{sym, _∙_}
 use Prim.Native.Nat.{_-_, _≤_}
 use native.Mathlib.Omega.{arith}
 use borrow.Author.Needs.{needs}
-use Rattle.outline.specs.Region.{regionOf}
-use Rattle.outline.specs.Rules.{Keeps}
-use Rattle.outline.proofs.Keeps.{keeps-fewer, sized}
-use Rattle.outline.proofs.Check.{ring-refused, ring-kept, shape-accepted, shape-refused}
+use Rattle.region.specs.Region.{regionOf}
+use Rattle.region.specs.Rules.{Keeps}
+use Rattle.region.proofs.Keeps.{keeps-fewer, sized}
+use Rattle.region.proofs.Check.{ring-refused, ring-kept, shape-accepted, shape-refused}
 use Rattle.outline.proofs.check_rule_by_rule.Statement.{statement}
 use Rattle.outline.proofs.check_rule_by_rule.Tie as tie
 

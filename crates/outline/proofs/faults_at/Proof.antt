@@ -4,9 +4,9 @@ use native.Mathlib.Omega.{arith}
 use borrow.Author.Needs.{needs}
 use Rattle.bands.specs.Bands.{mostEdges}
 use Rattle.simple.specs.Faults.{faultsOf}
-use Rattle.outline.specs.Region.{Region, regionOf, sizeOf}
-use Rattle.outline.proofs.Ends.{size-least, ring-in-last}
-use Rattle.outline.proofs.Keeps.{keeps-fewer, Sized, sized, in-range, ring-order, ring-stretch}
+use Rattle.region.specs.Region.{Region, regionOf, sizeOf}
+use Rattle.region.proofs.Ends.{size-least, ring-in-last}
+use Rattle.region.proofs.Keeps.{keeps-fewer, Sized, sized, in-range, ring-order, ring-stretch}
 use Rattle.outline.proofs.faults_at.Statement.{statement}
 use Rattle.outline.proofs.faults_at.Tie as tie
 

@@ -3,9 +3,9 @@ use Prim.Native.Nat.{_-_}
 use native.Mathlib.Omega.{arith}
 use lib.ListN.{length}
 use borrow.Author.Needs.{needs}
-use Rattle.outline.specs.Region.{regionOf}
-use Rattle.outline.specs.Check.{breaksAt}
-use Rattle.outline.proofs.Search.{Passed, passed-none, passed-more, passed-hit, passed-all}
+use Rattle.region.specs.Region.{regionOf}
+use Rattle.region.specs.Check.{breaksAt}
+use Rattle.region.proofs.Search.{Passed, passed-none, passed-more, passed-hit, passed-all}
 use Rattle.outline.proofs.first_breaking.Statement.{statement}
 use Rattle.outline.proofs.first_breaking.Tie as tie
 

@@ -7,9 +7,9 @@ use lib.ListN.{length}
 use borrow.Author.Needs.{needs}
 use Rattle.plane.specs.Folds.{anyTo}
 use Rattle.plane.proofs.Folds.{none-yet, none-more, found}
-use Rattle.outline.specs.Region.{regionOf}
-use Rattle.outline.specs.Check.{faultyAt, someFaulty}
-use Rattle.outline.proofs.Rings.{faults-are}
+use Rattle.region.specs.Region.{regionOf}
+use Rattle.region.specs.Check.{faultyAt, someFaulty}
+use Rattle.outline.proofs.Faults.{faults-are}
 use Rattle.outline.proofs.some_faulty.Statement.{statement}
 use Rattle.outline.proofs.some_faulty.Tie as tie
 

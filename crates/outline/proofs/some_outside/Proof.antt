@@ -9,7 +9,7 @@ use lib.IntN.{ℤ, pos}
 use Rattle.plane.specs.Place.{inRange}
 use Rattle.plane.specs.Folds.{anyTo}
 use Rattle.plane.proofs.Folds.{any-step}
-use Rattle.outline.specs.Check.{someOutside}
+use Rattle.region.specs.Check.{someOutside}
 use borrow.Author.Needs.{needs}
 use Rattle.outline.proofs.some_outside.Statement.{statement}
 use Rattle.outline.proofs.some_outside.Tie as tie

@@ -5,8 +5,8 @@ use borrow.Author.Tests.{eq-eqb, ne-eqb}
 use Rattle.plane.specs.declared.Box.{Box}
 use Rattle.plane.specs.Placed.{BoxInPlaces, Upright}
 use Rattle.seen.specs.declared.Seen.{Seen}
-use Rattle.outline.specs.Region.{Region, regionOf}
-use Rattle.outline.specs.Rules.{Keeps}
+use Rattle.region.specs.Region.{Region, regionOf}
+use Rattle.region.specs.Rules.{Keeps}
 use Rattle.relation.specs.Relation.{regionBox, regionSeen}
 use Rattle.relation.proofs.Regions.{region-box-in-places, region-upright}
 use Rattle.pair.specs.Answer.{refusedWith, given, answerFor, answerOf}

@@ -2,13 +2,13 @@ use mathlib.Core.Path.{_≡_, sym, _∙_, ap}
 use Prim.Native.Nat.{ℕ}
 use native.Mathlib.Omega.{arith}
 use borrow.Author.Needs.{needs}
-use Rattle.outline.specs.declared.Checked.{Checked}
-use Rattle.outline.specs.declared.Checked.the-variants.{Accepted, Refused}
-use Rattle.outline.specs.Region.{Region, regionOf}
-use Rattle.outline.specs.Rules.{Keeps}
-use Rattle.outline.specs.Check.{checkOf}
-use Rattle.outline.proofs.Keeps.{keeps-fewer}
-use Rattle.outline.proofs.Check.{accepted-means}
+use Rattle.region.specs.declared.Checked.{Checked}
+use Rattle.region.specs.declared.Checked.the-variants.{Accepted, Refused}
+use Rattle.region.specs.Region.{Region, regionOf}
+use Rattle.region.specs.Rules.{Keeps}
+use Rattle.region.specs.Check.{checkOf}
+use Rattle.region.proofs.Keeps.{keeps-fewer}
+use Rattle.region.proofs.Check.{accepted-means}
 use Rattle.pair.specs.Answer.{refusedWith, orRefused, answerOf, pairOf}
 use Rattle.pair.proofs.pair_of.Statement.{statement}
 use Rattle.pair.proofs.pair_of.Tie as tie

@@ -1,6 +1,6 @@
 use mathlib.Core.Path.{sym, _∙_, ap}
 use borrow.Author.Needs.{needs}
-use Rattle.outline.specs.declared.Checked.{Checked}
+use Rattle.region.specs.declared.Checked.{Checked}
 use Rattle.pair.specs.Answer.{refusedWith, orRefused}
 use Rattle.pair.proofs.refusal.Statement.{statement}
 use Rattle.pair.proofs.refusal.Tie as tie

@@ -1,5 +1,5 @@
 use native.Mathlib.Omega.{arith}
-use Rattle.outline.proofs.Keeps.{keeps-fewer, sized}
+use Rattle.region.proofs.Keeps.{keeps-fewer, sized}
 use Rattle.relation.proofs.OneTile.{held-answer}
 use borrow.Author.Needs.{needs}
 use Rattle.relation.proofs.region_seen.Statement.{statement}

@@ -16,10 +16,10 @@ use Rattle.ring.specs.RingBox.{stretchBox, covers}
 use Rattle.ring.specs.RingTiles.{ringHas, ringPieces}
 use Rattle.seen.specs.RingSeen.{ringSeen}
 use Rattle.ring.proofs.RingBox.{stretch-covers}
-use Rattle.outline.specs.Region.{Region, regionOf, mostVertices, startOf, sizeOf, lastEnd}
-use Rattle.outline.specs.Rules.{Keeps}
-use Rattle.outline.proofs.Ends.{start-le, size-least, ring-in-last}
-use Rattle.outline.proofs.Keeps.{keeps-fewer, Sized, sized, in-range, ring-order, ring-stretch}
+use Rattle.region.specs.Region.{Region, regionOf, mostVertices, startOf, sizeOf, lastEnd}
+use Rattle.region.specs.Rules.{Keeps}
+use Rattle.region.proofs.Ends.{start-le, size-least, ring-in-last}
+use Rattle.region.proofs.Keeps.{keeps-fewer, Sized, sized, in-range, ring-order, ring-stretch}
 use Rattle.relation.specs.Relation.{regionBox, relationOf, regionHas, regionPieces, regionSeen}
 use Rattle.relation.proofs.Relation.{pieces-to}
 use Rattle.relation.proofs.rings_seen.Statement.{statement}

@@ -3,9 +3,9 @@ use Prim.Native.Nat.{ℕ}
 use native.Mathlib.Omega.{arith}
 use Rattle.ring.specs.Edges.{ringEdge}
 use Rattle.ring.specs.Repeated.{equalEnds}
-use Rattle.outline.specs.Region.{Region, regionOf, sizeOf}
-use Rattle.outline.proofs.Ends.{size-least}
-use Rattle.outline.proofs.Keeps.{keeps-fewer, Sized, sized, in-range, ring-order, ring-stretch}
+use Rattle.region.specs.Region.{Region, regionOf, sizeOf}
+use Rattle.region.proofs.Ends.{size-least}
+use Rattle.region.proofs.Keeps.{keeps-fewer, Sized, sized, in-range, ring-order, ring-stretch}
 use Rattle.relation.proofs.OneTile.{told-none, told-flat, told-tile}
 use borrow.Author.Needs.{needs}
 use Rattle.relation.proofs.tile_holding.Statement.{statement}

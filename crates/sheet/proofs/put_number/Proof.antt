@@ -1,7 +1,7 @@
 use mathlib.Core.Path.{_≡_, sym, ap, _∙_}
 use Rattle.layout.specs.Sheet.{Sheet, sheetOf}
 use Rattle.layout.specs.Changes.{changeNumber}
-use Rattle.outline.specs.Check.{numberOf}
+use Rattle.region.specs.Check.{numberOf}
 use Rattle.calls.proofs.Numbers.{put-first, put-next}
 use borrow.Author.Needs.{needs}
 use Rattle.sheet.proofs.put_number.Statement.{statement}

@@ -2,7 +2,7 @@ use mathlib.Core.Path.{sym, ap, _∙_}
 use native.Mathlib.Omega.{arith}
 use lib.Dec.{ltb}
 use Rattle.plane.proofs.Logic.{clash}
-use Rattle.outline.specs.Region.{mostRings}
+use Rattle.region.specs.Region.{mostRings}
 use Rattle.card.proofs.Bounds.{entry-there}
 use Rattle.card.proofs.Tests.{slot-rises, entry-wrong, entry-last}
 use borrow.Author.Needs.{needs}

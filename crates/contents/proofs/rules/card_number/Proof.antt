@@ -4,8 +4,8 @@ use mathlib.Core.Bool.{true, false}
 use mathlib.Core.List.{List}
 use Prim.Native.Nat.{ℕ}
 use borrow.Author.Needs.{needs}
-use Rattle.outline.specs.Refusals.{firstNumber}
-use Rattle.outline.proofs.OrElse.{or-else-first}
+use Rattle.region.specs.Refusals.{firstNumber}
+use Rattle.region.proofs.OrElse.{or-else-first}
 use Rattle.card.specs.Reading.{parcelCount}
 use Rattle.card.specs.CardNumber.{wrongHeader, wrongParcels, sizesNumber, wrongVertices, shapeNumber, cardNumber}
 use Rattle.card.proofs.Good.{right-vertices, card-header-wrong}

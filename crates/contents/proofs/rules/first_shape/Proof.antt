@@ -1,11 +1,11 @@
 use mathlib.Core.Path.{ap}
-use Rattle.outline.specs.Refusals.{firstNumber}
+use Rattle.region.specs.Refusals.{firstNumber}
 use mathlib.Core.Path.{sym, _∙_}
 use Prim.Native.Nat.{_-_}
 use native.Mathlib.Omega.{arith}
 use Rattle.card.specs.CardNumber.{shapeNumber}
 use Rattle.card.proofs.Tests.{header-means}
-use Rattle.outline.proofs.OrElse.{Zeros, zeros-none, zeros-more, zeros-hit, zeros-all}
+use Rattle.region.proofs.OrElse.{Zeros, zeros-none, zeros-more, zeros-hit, zeros-all}
 use borrow.Author.Needs.{needs}
 use Rattle.contents.proofs.rules.first_shape.Statement.{statement}
 use Rattle.contents.proofs.rules.first_shape.Tie as tie

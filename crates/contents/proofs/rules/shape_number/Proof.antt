@@ -6,9 +6,9 @@ use lib.ListN.{length, take, drop}
 use mathlib.Core.List.{List}
 use Prim.Native.Nat.{ℕ}
 use borrow.Author.Needs.{needs}
-use Rattle.outline.specs.Region.{regionOf}
-use Rattle.outline.specs.Rules.{Keeps}
-use Rattle.outline.specs.Check.{shapeOf, numberOf}
+use Rattle.region.specs.Region.{regionOf}
+use Rattle.region.specs.Rules.{Keeps}
+use Rattle.region.specs.Check.{shapeOf, numberOf}
 use Rattle.card.specs.Reading.{endsAt, numbersAt}
 use Rattle.card.specs.CardNumber.{shapeNumber}
 use Rattle.card.proofs.Bounds.{ends-read, numbers-read, entry-few, vertices-there, parcel-keeps}

@@ -8,8 +8,8 @@ use borrow.Author.Needs.{needs}
 use borrow.Author.Tests.{lt-ltb, le-ltb}
 use Rattle.plane.specs.Folds.{anyTo, firstOf}
 use Rattle.plane.proofs.Folds.{any-means, any-none, first-below, first-passes}
-use Rattle.outline.specs.Region.{mostVertices, lastEnd}
-use Rattle.outline.specs.Check.{shortAt}
+use Rattle.region.specs.Region.{mostVertices, lastEnd}
+use Rattle.region.specs.Check.{shortAt}
 use Rattle.card.specs.Reading.{countAt, endsAt}
 use Rattle.card.specs.CardNumber.{sizesNumber}
 use Rattle.card.proofs.Bounds.{length-ends, ends-read, entry-few}

@@ -1,7 +1,7 @@
 use mathlib.Core.Path.{_≡_, sym, ap, ap₂, _∙_, subst}
 use mathlib.Core.Bool.{false}
-use Rattle.outline.specs.Region.{Region, regionOf}
-use Rattle.outline.specs.Rules.{Keeps}
+use Rattle.region.specs.Region.{Region, regionOf}
+use Rattle.region.specs.Rules.{Keeps}
 use Rattle.relation.specs.Relation.{regionBox}
 use Rattle.layout.specs.Slots.{emptyIn, regionIn}
 use Rattle.layout.specs.BoxList.{withBox}

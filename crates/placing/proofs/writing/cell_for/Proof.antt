@@ -3,8 +3,8 @@ use mathlib.Core.Bool.{false}
 use Rattle.plane.specs.Placed.{BoxInPlaces, Upright}
 use Rattle.plane.specs.declared.Box.{Box}
 use Rattle.seen.specs.declared.Seen.{Seen}
-use Rattle.outline.specs.Region.{Region, regionOf}
-use Rattle.outline.specs.Rules.{Keeps}
+use Rattle.region.specs.Region.{Region, regionOf}
+use Rattle.region.specs.Rules.{Keeps}
 use Rattle.relation.specs.Relation.{regionBox, relationOf}
 use Rattle.relation.proofs.Regions.{region-box-in-places, region-upright}
 use Rattle.layout.specs.Slots.{emptyIn, regionIn}

@@ -1,4 +1,4 @@
-use Rattle.outline.specs.Region.{regionOf}
+use Rattle.region.specs.Region.{regionOf}
 use Rattle.layout.proofs.Steps.{ends-few, whole-written, boxed-written, written}
 use borrow.Author.Needs.{needs}
 use Rattle.placing.proofs.writing.write_among.Statement.{statement}

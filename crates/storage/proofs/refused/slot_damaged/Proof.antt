@@ -4,8 +4,8 @@ use Prim.Native.Nat.{ℕ, _≤_}
 use native.Mathlib.Omega.{arith}
 use lib.ListN.{length}
 use Rattle.plane.specs.Folds.{firstOf}
-use Rattle.outline.specs.Region.{mostVertices, lastEnd}
-use Rattle.outline.specs.Check.{shortAt, someOutside}
+use Rattle.region.specs.Region.{mostVertices, lastEnd}
+use Rattle.region.specs.Check.{shortAt, someOutside}
 use Rattle.layout.specs.Slots.{ringsIn, endsIn}
 use Rattle.layout.proofs.SlotTests.{Looked, none, many, counted, short, high, outlined, outside}
 use borrow.Author.Needs.{needs}

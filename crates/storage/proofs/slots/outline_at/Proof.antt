@@ -1,7 +1,7 @@
 use mathlib.Core.Path.{_≡_, ap, _∙_}
 use native.Mathlib.Omega.{arith}
 use native.Mathlib.Nat.{add-sub-cancel-left}
-use Rattle.outline.specs.Region.{lastEnd}
+use Rattle.region.specs.Region.{lastEnd}
 use Rattle.layout.specs.Slots.{endsIn, coordinatesIn}
 use borrow.Author.Needs.{needs}
 use Rattle.storage.proofs.slots.outline_at.Statement.{statement}

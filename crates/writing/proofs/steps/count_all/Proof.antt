@@ -4,7 +4,7 @@ use mathlib.Core.Bool.{Bool, true, false, not}
 use Prim.Native.Nat.{ℕ, _-_, _≤_}
 use native.Mathlib.Omega.{arith}
 use Rattle.plane.specs.TileSet.{one-if}
-use Rattle.outline.specs.Region.{mostRings, mostVertices, lastEnd}
+use Rattle.region.specs.Region.{mostRings, mostVertices, lastEnd}
 use Rattle.layout.specs.Sheet.{slots}
 use Rattle.layout.specs.Slots.{ringsIn, emptyIn, endsIn}
 use Rattle.card.proofs.Sums.{Summing, summing-none, summing-more, summing-all}

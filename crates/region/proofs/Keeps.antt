@@ -17,10 +17,10 @@ use native.Mathlib.Decide.{ℕ-discrete}
 use lib.ListN.{length, getD}
 use Rattle.ring.specs.Edges.{RingInRange}
 use Rattle.ring.specs.Stretch.{Stretch}
-use Rattle.outline.specs.Region.{Region, mostRings, mostVertices, startOf, sizeOf, lastEnd}
-use Rattle.outline.specs.Rules.{Breaks, Keeps}
-use Rattle.outline.proofs.Ends.{Grown, start-le, ring-in-last}
-use Rattle.outline.proofs.Outside.{ring-in-range}
+use Rattle.region.specs.Region.{Region, mostRings, mostVertices, startOf, sizeOf, lastEnd}
+use Rattle.region.specs.Rules.{Breaks, Keeps}
+use Rattle.region.proofs.Ends.{Grown, start-le, ring-in-last}
+use Rattle.region.proofs.Outside.{ring-in-range}
 
 pub record Sized (R : Region) : Type 0 where
   pub some : 0 < length (R .ends)

@@ -1,8 +1,7 @@
 -- What one look at each number and each ring tells of the rules.
 --   outside-means                 some number of the list is out of range exactly where some ring breaks rule 4
 --   none-outside, none-faulty     where none is, rule 4 is kept; where no ring is faulty, all rules are
---   faults-are                    ring r is faulty exactly where one of its faults is found
-use mathlib.Core.Path.{_≡_, refl}
+use mathlib.Core.Path.{_≡_}
 use mathlib.Core.Logic.{_↔_, _⊎_, inl, inr, ⊎-elim}
 use mathlib.Core.Bool.{true, false, _||_}
 use mathlib.Core.List.{List}
@@ -11,18 +10,15 @@ use native.Mathlib.Omega.{arith}
 use native.Mathlib.Decide.{ℕ-discrete}
 use lib.ListN.{length, getD}
 use lib.IntN.{ℤ, pos}
-use borrow.Author.Tests.{lt-ltb}
 use Rattle.plane.proofs.Logic.{clash}
-use Rattle.simple.specs.declared.Faults.{Faults}
-use Rattle.simple.specs.Faults.{faultsOf}
-use Rattle.outline.specs.Region.{Region, startOf, sizeOf}
-use Rattle.outline.specs.Rules.{Outside, Breaks, Keeps, KeepsRules}
-use Rattle.outline.specs.Check.{someOutside, breaksAt, faultyAt, someFaulty}
-use Rattle.outline.proofs.Search.{or-false, none-any}
-use Rattle.outline.proofs.Ends.{ring-of}
-use Rattle.outline.proofs.Outside.{some-outside-means}
-use Rattle.outline.proofs.Keeps.{keeps-more, Sized, sized, ring-room}
-use Rattle.outline.proofs.Tests.{passes-keeps}
+use Rattle.region.specs.Region.{Region, startOf}
+use Rattle.region.specs.Rules.{Outside, Breaks, Keeps, KeepsRules}
+use Rattle.region.specs.Check.{someOutside, breaksAt, faultyAt, someFaulty}
+use Rattle.region.proofs.Search.{or-false, none-any}
+use Rattle.region.proofs.Ends.{ring-of}
+use Rattle.region.proofs.Outside.{some-outside-means}
+use Rattle.region.proofs.Keeps.{keeps-more, Sized, sized, ring-room}
+use Rattle.region.proofs.Tests.{passes-keeps}
 
 -- ---- rule 4
 module _ {R : Region} (whole : Sized R) where
@@ -69,8 +65,3 @@ module _ {R : Region} (four : Keeps 4 R) (none : someFaulty R ≡ false) where
       let five = passes-keeps R 4 (omega arith) four (λ r l. passed r l .0 .0) in
       let six = passes-keeps R 5 (omega arith) five (λ r l. passed r l .0 .1) in
       passes-keeps R 6 (omega arith) six (λ r l. passed r l .1)
-
-pub faults-are : (R : Region) (r : ℕ) → r < length (R .ends) → (f : Faults) → f ≡ faultsOf (R .coordinates) (startOf (R .ends) r) (sizeOf (R .ends) r)
-    → (f .repeated || f .tangled) || f .turned ≡ faultyAt R r
-unfolding breaksAt faultsOf faultyAt
-faults-are R r l f e = rw (e, lt-ltb r (length (R .ends)) l) refl

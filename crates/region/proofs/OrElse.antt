@@ -13,7 +13,7 @@ use native.Mathlib.Omega.{arith}
 use native.Mathlib.Decide.{ℕ-discrete}
 use borrow.Author.Count.{below-none, below-more}
 use Rattle.plane.proofs.Logic.{never}
-use Rattle.outline.specs.Refusals.{Refusal, number, numberIf, orElse, firstNumber, ring-count, ring-length, list-size, coordinate-range, vertex-repeated, edges-meet, not-clockwise, slot-number, slot-empty, buffer-short, sheet-lists, sheet-damaged, no-tile, card-header, card-parcels, card-vertices, not-two-parcels}
+use Rattle.region.specs.Refusals.{Refusal, number, numberIf, orElse, firstNumber, ring-count, ring-length, list-size, coordinate-range, vertex-repeated, edges-meet, not-clockwise, slot-number, slot-empty, buffer-short, sheet-lists, sheet-damaged, no-tile, card-header, card-parcels, card-vertices, not-two-parcels}
 
 pub or-else-first : (a b : ℕ) → a ≢ 0 → orElse a b ≡ a
 or-else-first zero b h = absurd (h refl)

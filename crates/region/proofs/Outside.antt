@@ -16,8 +16,8 @@ use Rattle.plane.proofs.Logic.{never, iff-join, iff-or, or-means}
 use Rattle.plane.proofs.Place.{below-means}
 use Rattle.plane.proofs.Folds.{any-means, some-means}
 use Rattle.ring.specs.Edges.{corner, RingInRange}
-use Rattle.outline.specs.Rules.{Outside, OutsideIn}
-use Rattle.outline.specs.Check.{outsideIn, someOutside}
+use Rattle.region.specs.Rules.{Outside, OutsideIn}
+use Rattle.region.specs.Check.{outsideIn, someOutside}
 
 outside-means : (z : ℤ) → (not (inRange z) ≡ true) ↔ Outside z
 unfolding inRange
