@@ -1,0 +1,12 @@
+pub mod Closed
+pub mod Turned
+pub mod Parity
+pub mod Untouched
+pub mod Entered
+pub mod Origin
+pub mod TileLaws
+pub mod Pins
+pub mod Alone
+pub mod Rim
+pub mod Sides
+pub mod Reaches
