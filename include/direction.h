@@ -94,6 +94,9 @@ uint32_t direction_report(const uint8_t *card, size_t card_length, uint8_t *repo
 #define DIRECTION_S 128
 #define DIRECTION_SE 256
 
+/* The first parcel is around the second exactly where its tiles (DIRECTION_FIRST_TO_SECOND) are all but DIRECTION_B, 495, and the second's
+ * (DIRECTION_SECOND_TO_FIRST) are DIRECTION_B alone, 16; the second around the first where it is the other way. Never both. */
+
 /* The number at a place of a report. */
 static inline unsigned direction_word(const uint8_t *report, unsigned place)
 {

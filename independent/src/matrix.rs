@@ -77,11 +77,6 @@ pub fn directions(cells: Cells) -> u16 {
     places
 }
 
-/// Whether the first region lies around the second: "the eight without O".
-pub fn is_around(directions: u16) -> bool {
-    directions == tile::ALL - tile::B
-}
-
 /// The middles of the ranges between the distinct lines of two boxes.
 fn cell_middles(first: Span, second: Span) -> Vec<Fraction> {
     let lines: BTreeSet<i128> = [first, second].iter().flat_map(Span::lines).collect();
@@ -119,12 +114,5 @@ mod tests {
         assert_eq!(directions([[4, 5, 6], [7, 255, 4], [9, 8, 7]]), 0);
         assert_eq!(directions([[1, 1, 1], [1, 1, 1], [1, 1, 1]]), 0);
         assert_eq!(directions([[0, 0, 0], [0, 3, 0], [0, 0, 4]]), tile::B);
-    }
-
-    #[test]
-    fn around_is_the_eight_without_the_same_place() {
-        assert!(is_around(directions([[1, 1, 1], [1, 2, 1], [1, 1, 1]])));
-        assert!(!is_around(directions([[1, 1, 1], [1, 3, 1], [1, 1, 1]])));
-        assert!(!is_around(directions([[0, 1, 1], [1, 2, 1], [1, 1, 0]])));
     }
 }

@@ -2,10 +2,11 @@
 //! paragraph after the table of refusals, and the report of "The card".
 
 use crate::check::{check, Broken};
-use crate::matrix::{directions, is_around, matrix, Matrix, Side};
+use crate::matrix::{directions, matrix, Matrix, Side};
 use crate::refusal::Refusal;
 use crate::region::{Outline, Region};
 use crate::relation::{pieces, relation};
+use crate::tile;
 
 /// How many numbers a pair answer has.
 pub const NUMBERS: usize = 19;
@@ -98,8 +99,46 @@ pub fn numbers(answer: &Result<Comparison, PairRefusal>) -> [u16; NUMBERS] {
     numbers
 }
 
-/// The word "around": the first region lies around the second. A refused pair
-/// gives no.
+/// The word "around", as request L1 of document 02 has it: the first region is
+/// in every tile of the second's box but B, and the second in B of the first's
+/// box and in no other tile. A refused pair gives no.
 pub fn around(answer: &Result<Comparison, PairRefusal>) -> bool {
-    answer.map_or(false, |comparison| is_around(comparison.directions))
+    answer.map_or(false, |comparison| {
+        let every_tile_but_b = tile::ALL & !tile::B;
+        comparison.first_to_second == every_tile_but_b && comparison.second_to_first == tile::B
+    })
+}
+
+#[cfg(test)]
+mod tests {
+    use super::*;
+
+    #[test]
+    fn around_looks_at_both_relations() {
+        let answer = |first_to_second, second_to_first| {
+            Ok(Comparison {
+                first_to_second,
+                second_to_first,
+                matrix: Matrix {
+                    rows: 3,
+                    columns: 3,
+                    cells: [[1, 1, 1], [1, 2, 1], [1, 1, 1]],
+                },
+                directions: 495,
+                pieces_of_first: 24,
+                pieces_of_second: 4,
+            })
+        };
+        assert!(around(&answer(495, 16)));
+        for (there, back) in [
+            (495, 495),
+            (16, 495),
+            (16, 16),
+            (511, 16),
+            (495, 48),
+            (495, 0),
+        ] {
+            assert!(!around(&answer(there, back)), "{there} {back}");
+        }
+    }
 }

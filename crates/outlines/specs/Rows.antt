@@ -112,7 +112,7 @@ rows =
     ∷ record { first = large; second = square; answer = given 511 16 3 3 (1 ∷ 1 ∷ 1 ∷ 1 ∷ 3 ∷ 1 ∷ 1 ∷ 1 ∷ 1 ∷ []) 511 12 4; around = false }
     ∷ record { first = square; second = large; answer = given 16 511 3 3 (2 ∷ 2 ∷ 2 ∷ 2 ∷ 3 ∷ 2 ∷ 2 ∷ 2 ∷ 2 ∷ []) 511 4 12; around = false }
     ∷ record { first = ring; second = square; answer = given 495 16 3 3 (1 ∷ 1 ∷ 1 ∷ 1 ∷ 2 ∷ 1 ∷ 1 ∷ 1 ∷ 1 ∷ []) 495 24 4; around = true }
-    ∷ record { first = square; second = ring; answer = given 16 495 3 3 (2 ∷ 2 ∷ 2 ∷ 2 ∷ 1 ∷ 2 ∷ 2 ∷ 2 ∷ 2 ∷ []) 495 4 24; around = true }
+    ∷ record { first = square; second = ring; answer = given 16 495 3 3 (2 ∷ 2 ∷ 2 ∷ 2 ∷ 1 ∷ 2 ∷ 2 ∷ 2 ∷ 2 ∷ []) 495 4 24; around = false }
     ∷ record { first = bow-tie; second = square; answer = refused 6 1; around = false }
     ∷ record { first = square; second = bow-tie; answer = refused 6 2; around = false }
     ∷ record { first = flat; second = square; answer = refused 6 1; around = false }

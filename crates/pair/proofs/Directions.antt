@@ -1,27 +1,23 @@
--- The directions of the pair answer and the word "around", for any two regions; a refused answer has none.
+-- The directions of the pair answer, for any two regions; a refused answer has none.
 --   directions-are       the directions are those of the answer's own nine cells, three rows of three
 --   directions-mean      direction k is there exactly when some cell whose value holds the first region lies in that direction from some cell
 --                        whose value holds the second (what a value holds: proofs/Cells; both together: proofs/Compass)
 --   directions-below     the directions are nine bits and nothing else
---   around-means         around is yes exactly when the directions are the eight without O
 --   turned, directions-turned    accepted the other way too; the directions are then the opposites
 use mathlib.Core.Path.{_≡_, refl, sym, ap}
-use mathlib.Core.Logic.{_↔_, _⊎_, _≢_, inl, inr}
-use mathlib.Core.Bool.{Bool, true, not}
+use mathlib.Core.Logic.{_↔_, _⊎_, inl, inr}
 use Prim.Native.Nat.{ℕ, _<_}
-use lib.Dec.{eqb}
 use Rattle.plane.specs.Folds.{anyTo}
 use Rattle.plane.specs.Lists.{tabFrom}
 use Rattle.plane.specs.TileSet.{setOf, bit}
-use Rattle.plane.proofs.Logic.{iff-join, iff-turn, iff-not, both, eq-means, not-means}
-use Rattle.plane.proofs.TileSet.{set-lt, set-means, set-same}
+use Rattle.plane.proofs.TileSet.{set-lt}
 use Rattle.region.specs.Region.{Region}
 use Rattle.relation.specs.Relation.{regionBox, relationOf}
 use Rattle.matrix.specs.Matrix.{threeRows}
 use Rattle.compass.specs.Directions.{Direction, holdsFirst, directed, directionsOf, opposite}
 use Rattle.matrix.proofs.Meaning.{flat-rows}
 use Rattle.compass.proofs.Directions as compass
-use Rattle.pair.specs.Answer.{given, pairOf, aroundOf}
+use Rattle.pair.specs.Answer.{given, pairOf}
 use Rattle.pair.specs.Meaning.{Answered, RefusedPair}
 use Rattle.pair.proofs.Laws.{fields-are}
 use Rattle.pair.proofs.Refusals.{refused-means, answered-or-refused}
@@ -44,30 +40,6 @@ module _ (first second : Region) where
   pub directions-below : pairOf first second .directions < 512
   unfolding directionsOf
   directions-below = rw directions-are (set-lt (directed (threeRows (pairOf first second .cells))) 9)
-
--- ---- around
-abbrev eight : ℕ → Bool
-eight k = not (eqb k 4)
-
-eight-means : (k : ℕ) → (eight k ≡ true) ↔ (k ≢ 4)
-eight-means k = iff-join (not-means (eqb k 4)) (iff-not (eq-means k 4))
-
-module _ (f : ℕ → Bool) where
-  eight-there : setOf f 9 ≡ 495 → (k : ℕ) → k < 9 → (bit (setOf f 9) k ≡ 1) ↔ (k ≢ 4)
-  unfolding setOf
-  eight-there e k h = rw e (iff-join (set-means eight 9 k h) (eight-means k))
-
-  eight-back : ((k : ℕ) → k < 9 → (bit (setOf f 9) k ≡ 1) ↔ (k ≢ 4)) → setOf f 9 ≡ 495
-  unfolding setOf
-  eight-back e =
-      set-same f eight 9 (λ k h. both (f k) (eight k) (iff-join (iff-turn (set-means f 9 k h)) (iff-join (e k h) (iff-turn (eight-means k)))))
-
-module _ (first second : Region) where
-  pub around-means : (aroundOf (pairOf first second) ≡ true) ↔ ((k : ℕ) → k < 9 → (bit (pairOf first second .directions) k ≡ 1) ↔ (k ≢ 4))
-  unfolding aroundOf directionsOf
-  around-means =
-      let f : ℕ → Bool = directed (threeRows (pairOf first second .cells)) in
-      iff-join (eq-means (pairOf first second .directions) 495) (rw (directions-are first second) (eight-there f, eight-back f))
 
   -- ---- the answer the other way
   pub turned : Answered first second → Answered second first

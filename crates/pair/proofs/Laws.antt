@@ -1,5 +1,5 @@
 -- What the pair answer says, in words that a user can check against a map: both relations and both piece counts. The other fields: number, region
--- and ring in proofs/Refusals, rows, columns and cells in proofs/Cells, directions and "around" in proofs/Directions.
+-- and ring in proofs/Refusals, rows, columns and cells in proofs/Cells, directions in proofs/Directions; the word "around" in proofs/Surrounding.
 --   number-means      number 0 exactly when both regions keep rules 1 to 7: they are `Answered`;  four  they keep rules 1 to 4 then
 --   fields-are        the fields of such an answer
 --   some-tile         it is never refused for want of a tile

@@ -1,16 +1,17 @@
 -- SCOPE 6.1, 6.2, 5.5: the pair call. Region 1 is wholly checked, then region 2, and a refusal says which of them it is of; of number 13 it
--- is the region whose relation has no tile. Beside a refusal all other fields are 0. A region is around the other where it lies in all
--- eight directions from it and not in O.
+-- is the region whose relation has no tile. Beside a refusal all other fields are 0. A region is around the other where it has all eight
+-- tiles round the other's box and not B, and the other has B of its box and no tile besides.
 --   refusedWith n g r          the refusal with number n that names region g and ring r
 --   orRefused c g a            the answer a where the check c accepts region g, and its refusal where not
 --   given a b there back       the answer's fields for two boxes and what each region shows of the other's
 --   answerFor a b there back   the same, or the refusal where one of them has no tile
 --   answerOf first second      the answer for two regions that are accepted
 --   pairOf first second        the pair answer for any two regions. Its meaning: proofs/Laws
---   aroundOf a                 the word "around" of an answer: no for a refused one
+--   eight, middle              the eight tiles without B, and B alone, as sets
+--   aroundOf a                 the word "around" of an answer: no for a refused one. Its meaning: proofs/Surrounding
 --   reportWords a              the 19 numbers of an answer: number, region, ring, both relations, rows, columns, nine cells by row, directions,
 --                              the pieces of both
-use mathlib.Core.Bool.{Bool}
+use mathlib.Core.Bool.{Bool, _&&_}
 use mathlib.Core.List.{List, [], _∷_, _++_}
 use Prim.Native.Nat.{ℕ}
 use lib.Dec.{eqb}
@@ -77,8 +78,14 @@ answerOf first second =
 unfoldable pub pairOf : (first second : Region) → Answer
 pairOf first second = orRefused (checkOf first) 1 (orRefused (checkOf second) 2 (answerOf first second))
 
+abbrev pub eight : ℕ
+eight = 495
+
+abbrev pub middle : ℕ
+middle = 16
+
 unfoldable pub aroundOf : Answer → Bool
-aroundOf a = eqb (a .directions) 495
+aroundOf a = eqb (a .first) eight && eqb (a .second) middle
 
 abbrev pub reportWords : Answer → List ℕ
 reportWords a =

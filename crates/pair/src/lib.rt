@@ -15,8 +15,10 @@ use relation::region_box;
 use relation::region_seen;
 use seen::Seen;
 
-// The eight directions without O.
+// The eight tiles without B, and B alone, as sets.
 const EIGHT: u16 = 495;
+
+const MIDDLE: u16 = 16;
 
 // Either the refusal (number, region, ring, and every other field 0), or number, region and ring 0 and the answers: the relation of the
 // first region to the second and of the second to the first, the matrix with its size, the directions of the first from the second, and
@@ -120,11 +122,12 @@ pub fn pair_of(first: &[i32], first_ends: &[u16], second: &[i32], second_ends: &
     answer_of(first, first_ends, second, second_ends)
 }
 
-// Is the first region around the second?
+// Is the first region around the second? It lies in all eight tiles round the second's box and not in the box; the second lies in the first's box
+// and nowhere else.
 pub fn around(a: Answer) -> bool
     ensures { λ r. ⌜ r ≡ aroundOf a ⌝ }
 {
-    a.directions == EIGHT
+    a.first == EIGHT && a.second == MIDDLE
 }
 
 // The 19 numbers of an answer, in the order of its fields.

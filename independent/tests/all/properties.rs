@@ -1,6 +1,6 @@
 //! What holds of any two accepted regions.
 
-use independent::pair::compare;
+use independent::pair::{around, compare};
 use independent::region::{Region, Ring};
 use independent::relation::{encloses, relation};
 
@@ -31,6 +31,23 @@ fn directions_back_are_the_opposites() {
         assert_ne!(there.directions, 0);
         assert_eq!(back.directions, opposite(there.directions));
     });
+}
+
+#[test]
+fn around_goes_one_way_and_has_the_eight_directions() {
+    let mut seen = 0;
+    for (first, second) in accepted_pairs(2_000, 7) {
+        let (there, back) = (compare(&first, &second), compare(&second, &first));
+        let eight = set("NW:N:NE:W:E:SW:S:SE");
+        // The eight tiles one way never come without B alone the other way.
+        assert_eq!(around(&Ok(there)), there.first_to_second == eight);
+        if around(&Ok(there)) {
+            seen += 1;
+            assert!(!around(&Ok(back)));
+            assert_eq!(there.directions, eight);
+        }
+    }
+    assert!(seen > 10, "only {seen} of the pairs are around");
 }
 
 #[test]
