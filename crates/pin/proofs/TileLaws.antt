@@ -5,7 +5,7 @@
 --   At, first-at     a pin inside the tile, in these numbers
 --   middle-wide      a box with a pin strictly inside B has width and height;  centre-in  and then its centre lies there
 use mathlib.Core.Path.{_≡_, ap}
-use Prim.Native.Nat.{ℕ, zero, suc, _+_, _-_, _*_, _≤_, _<_}
+use Prim.Native.Nat.{ℕ, zero, suc, _+_, _*_, _≤_, _<_}
 use native.Mathlib.Omega.{arith}
 use native.Mathlib.Nat.{mul-comm, mul-pos, lt-of-mul-lt-mul-left, le-of-mul-le-mul-left}
 use mathlib.Core.List.{List}
