@@ -1,4 +1,6 @@
 -- Directions: what the computed set says, and that the pair exchanged has the opposite directions.
+--   side-means             on which side of a number another lies;  sides-mean  the compass place made of two sides, of rows and of columns
+--   either-means           a value that is one of two
 --   directions-mean        bit k is set exactly where some cell holding a lies in direction k from some cell holding b
 --   Exchanged m m'         m' is m with 1 and 2 exchanged
 --   direction-turned       then direction k of m' is direction 8 - k of m
@@ -26,7 +28,7 @@ use Rattle.compass.specs.Directions.{HoldsFirst, HoldsSecond, Toward, Di
 use Rattle.matrix.proofs.Matrix.{value-at, matrix-exchanged}
 
 -- ---- sides
-side-means : (s i i' : ℕ) → s < 3 → (sideOf i i' ≡ s) ↔ Toward s i i'
+pub side-means : (s i i' : ℕ) → s < 3 → (sideOf i i' ≡ s) ↔ Toward s i i'
 unfolding sideOf
 side-means s i i' h = go s h (ltb i i') refl (eqb i i') refl
   where
@@ -51,6 +53,13 @@ side-lt i i' = go (ltb i i') (eqb i i')
     go false true = omega arith
     go false false = omega arith
 
+pub sides-mean : (i i' j j' k : ℕ) → k < 9 → (3 * sideOf i i' + sideOf j j' ≡ k) ↔ (Toward (k / 3) i i' × Toward (k % 3) j j')
+sides-mean i i' j j' k h =
+    iff-join (parts _ _ (side-lt i i') (side-lt j j')) (iff-and (side-means (k / 3) i i' (omega arith)) (side-means (k % 3) j j' (omega arith)))
+  where
+    parts : (x y : ℕ) → x < 3 → y < 3 → (3 * x + y ≡ k) ↔ ((x ≡ k / 3) × (y ≡ k % 3))
+    parts x y hx hy = (λ e. omega arith, λ e. omega arith)
+
 toward-turned : (s i i' : ℕ) → s < 3 → Toward s i i' → Toward (2 - s) i' i
 toward-turned zero i i' h t = t
 toward-turned (suc zero) i i' h t = sym t
@@ -63,14 +72,9 @@ cellNumber i j = 3 * i + j
 
 place-means : (c d k : ℕ) → k < 9 → (compassPlace c d ≡ k) ↔ (Toward (k / 3) (c / 3) (d / 3) × Toward (k % 3) (c % 3) (d % 3))
 unfolding compassPlace
-place-means c d k h =
-    iff-join (parts _ _ (side-lt _ _) (side-lt _ _))
-    (iff-and (side-means (k / 3) (c / 3) (d / 3) (omega arith)) (side-means (k % 3) (c % 3) (d % 3) (omega arith)))
-  where
-    parts : (x y : ℕ) → x < 3 → y < 3 → (3 * x + y ≡ k) ↔ ((x ≡ k / 3) × (y ≡ k % 3))
-    parts x y hx hy = (λ e. omega arith, λ e. omega arith)
+place-means c d k h = sides-mean (c / 3) (d / 3) (c % 3) (d % 3) k h
 
-either-means : (v n : ℕ) → (eqb v n || eqb v 3 ≡ true) ↔ ((v ≡ n) ⊎ (v ≡ 3))
+pub either-means : (v n : ℕ) → (eqb v n || eqb v 3 ≡ true) ↔ ((v ≡ n) ⊎ (v ≡ 3))
 either-means v n = iff-join (or-means (eqb v n) (eqb v 3)) (iff-or (eq-means v n) (eq-means v 3))
 
 first-means : (m : List (List ℕ)) (c : ℕ) → (holdsFirst m c ≡ true) ↔ HoldsFirst m (c / 3) (c % 3)

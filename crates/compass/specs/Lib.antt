@@ -1,2 +1,2 @@
 pub mod Directions
-pub mod FromCells
+pub mod Differences

@@ -1,5 +1,4 @@
 use native.Mathlib.Omega.{arith}
-use Rattle.compass.specs.Directions.{compassPlace}
 use borrow.Author.Needs.{needs}
 use Rattle.compass.proofs.compass_place.Statement.{statement}
 use Rattle.compass.proofs.compass_place.Tie as tie
@@ -17,8 +16,7 @@ add-result : tie.Need-add-result
 add-result c = search needs
 
 returns : tie.Need-returns
-unfolding compassPlace
-returns c = (simp (c .before .side-of .ensures .0, c .side-of2 .ensures .0), omega arith)
+returns c = (omega (arith, c .before .side-of .ensures .0, c .side-of2 .ensures .0), omega arith)
 
 pub compass-place-spec : {M : Type 1} → statement M
 compass-place-spec =
