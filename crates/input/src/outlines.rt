@@ -56,7 +56,7 @@ fn read_coordinates(line: &[u8], from: usize, xs: &mut [i32]) -> Numbers {
 }
 
 // Fills a list with the numbers that stand from `from` on.
-fn read_naturals(line: &[u8], from: usize, into: &mut [u16]) -> Numbers {
+pub fn read_naturals(line: &[u8], from: usize, into: &mut [u16]) -> Numbers {
     let mut at = from;
     let mut i = 0;
     while i < into.len() {
