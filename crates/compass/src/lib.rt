@@ -63,8 +63,8 @@ fn direction_at(first: u64, second: u64, rows: usize, columns: usize) -> u16
     1 << compass_place(rows, columns)
 }
 
-// Is there a cell of the first region that has a cell of the second at this difference? The second's cells are moved by the difference; there
-// is, where one of them falls on a cell of the first.
+// Whether some cell of the first region stands at this difference from a cell of the second: the second's cells are moved by the difference,
+// and one of them falls on a cell of the first.
 fn occurs(first: u64, second: u64, rows: usize, columns: usize) -> bool
     requires { ⌜ (rows < 5) × (columns < 5) × (first < 2 ^ 15) × (second < 2 ^ 15) ⌝ }
     ensures { λ t. ⌜ t ≡ occurs first second rows columns ⌝ }
@@ -97,7 +97,8 @@ fn side_of(difference: usize) -> u16
     2
 }
 
-// The cells that hold the region whose own value is given, as squares: row after row, each five squares.
+// The cells that hold the region whose own value is given, as squares. Each row stands five squares behind the one before, so its marks count
+// 32 times as much.
 fn squares(m: [[u8; 3]; 3], own: u8) -> u64
     ensures { λ r. ⌜ (r ≡ squaresOf m own) × (r < 2 ^ 15) ⌝ }
 {

@@ -1,10 +1,12 @@
-// The requests on two outlines and on a card, which are answered with the numbers of a report and need no sheet: pair, host.
+// The requests on two outlines, on a matrix and on a card, which are answered with numbers of a report and need no sheet: pair, directions, host.
+mod matrices;
 mod pairs;
 
 use answers::BEFORE;
 use answers::Reply;
 use answers::fronts;
 use input::cards;
+pub use matrices::directions_reply;
 pub use pairs::pair_reply;
 use words::Bytes;
 use words::Natural;

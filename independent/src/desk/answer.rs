@@ -4,6 +4,7 @@ use super::request::{Poke, Request, ROOM};
 use crate::card;
 use crate::hex;
 use crate::host;
+use crate::matrix;
 use crate::pair;
 use crate::refusal::number;
 use crate::sheet::{self, Sheet};
@@ -41,6 +42,7 @@ impl Desk {
             Request::Cell(primary, reference) => self.cell(primary, reference),
             Request::Row(slot) => self.row(slot),
             Request::Tiles(relation) => tile::count(relation).to_string(),
+            Request::Directions(cells) => matrix::directions(cells).to_string(),
             Request::Load(bytes) => number(&card::load(&mut self.sheet(), &bytes)).to_string(),
             Request::Write(length) => self.write(length),
             Request::Host(length, bytes) => host_answer(length, &bytes),

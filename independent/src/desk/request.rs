@@ -3,6 +3,7 @@
 use std::str::FromStr;
 
 use crate::hex;
+use crate::matrix::Cells;
 use crate::region::Outline;
 use crate::sheet;
 
@@ -28,6 +29,7 @@ pub enum Request {
     Cell(u16, u16),
     Row(u16),
     Tiles(u16),
+    Directions(Cells),
     Load(Vec<u8>),
     Write(usize),
     Host(usize, Vec<u8>),
@@ -55,6 +57,7 @@ pub fn parse(line: &[u8]) -> Option<Request> {
         b"cell" => Request::Cell(words.number()?, words.number()?),
         b"row" => Request::Row(words.number()?),
         b"tiles" => Request::Tiles(words.number()?),
+        b"directions" => Request::Directions(words.cells()?),
         b"load" => Request::Load(words.bytes()?),
         b"write" => Request::Write(words.count(LONGEST_CARD_BUFFER)?),
         b"host" => Request::Host(words.count(LONGEST_REPORT_BUFFER)?, words.bytes()?),
@@ -112,6 +115,15 @@ impl<'a> Words<'a> {
             ends: self.list(MOST_ENDS)?,
             coordinates: self.list(MOST_COORDINATES)?,
         })
+    }
+
+    /// Nine numbers of a byte each, row by row.
+    fn cells(&mut self) -> Option<Cells> {
+        let mut cells = Cells::default();
+        for cell in cells.iter_mut().flatten() {
+            *cell = self.number()?;
+        }
+        Some(cells)
     }
 
     fn bytes(&mut self) -> Option<Vec<u8>> {
@@ -213,6 +225,22 @@ mod tests {
         assert!(!is_request(&format!("{} 1", outline(1, 6))));
         assert!(!is_request("put 0 1 3 6 0 0 0 1 1"));
         assert!(!is_request("put 0 1 -3 0"));
+    }
+
+    #[test]
+    fn a_matrix_is_nine_bytes_by_row() {
+        let cells = [[0, 2, 2], [1, 3, 2], [1, 1, 255]];
+        let request = parse(b"directions 0 2 2 1 3 2 1 1 255");
+        assert_eq!(request, Some(Request::Directions(cells)));
+        for line in [
+            "directions 0 2 2 1 3 2 1 1",
+            "directions 0 2 2 1 3 2 1 1 0 0",
+            "directions 0 2 2 1 3 2 1 1 256",
+            "directions 0 2 2 1 3 2 1 1 -0",
+            "direction 0 2 2 1 3 2 1 1 0",
+        ] {
+            assert!(!is_request(line), "{line}");
+        }
     }
 
     #[test]

@@ -5,6 +5,7 @@
 
 pub mod cards;
 pub mod faults;
+mod matrices;
 pub mod pairs;
 pub mod random;
 pub mod regions;
@@ -27,6 +28,8 @@ pub enum Kind {
     Sheets,
     /// Cards, each with requests about it.
     Cards,
+    /// Matrices whose directions are read.
+    Matrices,
     /// Cards of 0 to 40 random bytes, each with requests about it.
     Short,
 }
@@ -39,6 +42,7 @@ pub fn batch(kind: Kind, items: u64, seed: u64, output: &mut impl Write) -> io::
             Kind::Pairs => vec![pairs::request(&mut random)],
             Kind::Sheets => sheets::run(&mut random),
             Kind::Cards => cards::requests(&mut random),
+            Kind::Matrices => vec![matrices::request(&mut random)],
             Kind::Short => cards::short_requests(item, &mut random),
         };
         for line in lines {

@@ -176,3 +176,21 @@ fn short_cards_have_every_length() {
         .collect();
     assert_eq!(lengths, (0..41).chain(0..41).collect::<Vec<usize>>());
 }
+
+#[test]
+fn matrices_show_every_direction_and_some_are_no_matrix() {
+    let requests = run(&["make", "matrices", "2000", "1"], b"").stdout;
+    let answers = run(&["desk"], &requests).stdout;
+    let answers = String::from_utf8(answers).expect("plain text");
+    assert_eq!(answers.lines().count(), 2_000);
+    let refused = answers.lines().filter(|&answer| answer == "?").count();
+    assert!((30..200).contains(&refused), "{refused}");
+    let sets: HashSet<u16> = answers.lines().filter_map(|set| set.parse().ok()).collect();
+    assert!(sets.contains(&0) && sets.contains(&511));
+    for bit in 0..9 {
+        assert!(sets.contains(&(1 << bit)), "{bit} alone");
+    }
+    let words = String::from_utf8(requests).expect("plain text");
+    let is_other = |word: &str| word.parse::<u8>().map_or(false, |number| number > 3);
+    assert!(words.split_whitespace().any(is_other));
+}

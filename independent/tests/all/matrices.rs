@@ -1,5 +1,9 @@
 //! The matrices that occur, one row each of data/matrices.tsv: matrix, both
-//! relations, directions, and two regions that show them.
+//! relations, directions, and two regions that show them. And the directions
+//! of any matrix by differences, as document 02 has them taught.
+
+use independent::matrix::{directions, Cells};
+use independent::tile;
 
 use crate::common::{opposite, outline, pair_numbers, Vertices};
 
@@ -118,4 +122,52 @@ fn every_row_is_answered_as_it_says() {
     let rows: Vec<&str> = lines.collect();
     assert_eq!(rows.len(), 839);
     rows.into_iter().for_each(check_row);
+}
+
+/// Whether some cell of the first region stands so many rows further south
+/// and columns further east than a cell of the second.
+fn occurs(cells: Cells, rows: isize, columns: isize) -> bool {
+    (0..3).any(|row| {
+        (0..3).any(|column| {
+            let is_first = [1, 3].contains(&cells[row as usize][column as usize]);
+            let partner = (row - rows, column - columns);
+            let is_within = (0..3).contains(&partner.0) && (0..3).contains(&partner.1);
+            is_first && is_within && [2, 3].contains(&cells[partner.0 as usize][partner.1 as usize])
+        })
+    })
+}
+
+/// The places, by their signs, of the differences in rows and columns that
+/// occur.
+fn by_differences(cells: Cells) -> u16 {
+    let mut places = 0;
+    for rows in -2..=2_isize {
+        for columns in -2..=2_isize {
+            if occurs(cells, rows, columns) {
+                let place = |difference: isize| (difference.signum() + 1) as usize;
+                places |= tile::at(place(rows), place(columns));
+            }
+        }
+    }
+    places
+}
+
+#[test]
+fn every_matrix_has_the_directions_of_its_differences() {
+    for number in 0..4_usize.pow(9) {
+        let mut cells = Cells::default();
+        for (place, cell) in cells.iter_mut().flatten().enumerate() {
+            *cell = (number >> (2 * place) & 3) as u8;
+        }
+        assert_eq!(directions(cells), by_differences(cells), "{cells:?}");
+    }
+}
+
+#[test]
+fn a_cell_of_any_other_number_is_nobodys() {
+    for other in 4..=u8::MAX {
+        let cells = [[1, other, 0], [other, 2, other], [other, other, other]];
+        assert_eq!(directions(cells), 1);
+        assert_eq!(by_differences(cells), 1);
+    }
 }
