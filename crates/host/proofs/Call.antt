@@ -1,13 +1,13 @@
 -- What a call of the C host gets back, from the call's own contract: `card` and `report` are the bytes at entry, `after` those of the report at exit.
 --   call-means          the number is n exactly when case n of specs/Meaning holds
 --   call-none-means     it is 0 exactly when the report has room, the card is good and has two parcels
---   call-either         it is 0, 10, 17 or one of the numbers of a card, and no other
+--   call-either         it is 0, 10, one of the numbers of a card, or 17, and no other (`HostGives`)
 --   call-kept           beside a number that is not 0 the report is as it was found
 --   call-behind         its bytes past 38 are always so
 --   call-has            where the number is 0, the report has the pair answer of the card's two parcels, behind three zeros
 --   call-tile           bit t of its number 3 is then 1 exactly when the first parcel has tile t of the second's box
 use mathlib.Core.Path.{_≡_, _∙_, ap}
-use mathlib.Core.Logic.{_↔_, _⊎_, _≢_}
+use mathlib.Core.Logic.{_↔_, _≢_}
 use mathlib.Core.List.{List}
 use Prim.Native.Nat.{ℕ, _≤_, _<_}
 use lib.ListN.{getD}
@@ -17,9 +17,8 @@ use Rattle.relation.specs.Relation.{RegionBox, RegionHas}
 use Rattle.pair.specs.Answer.{pairOf}
 use Rattle.endian.specs.Bytes.{u16At}
 use Rattle.card.specs.Reading.{regionAt}
-use Rattle.card.specs.Good.{CardsOwn}
 use Rattle.host.specs.Report.{reportLength}
-use Rattle.host.specs.Meaning.{Reported, HostSays, ReportHas}
+use Rattle.host.specs.Meaning.{Reported, HostSays, HostGives, ReportHas}
 use Rattle.host.proofs.Meaning.{host-says, number-none-means, number-either, report-kept, report-behind, report-named, report-has, report-tile}
 use Rattle.host.proofs.direction_report.Reads as reads
 
@@ -39,7 +38,7 @@ module _ (κs : _) (a : _) (r : ℕ) (s : _) (post : reads.Post κs a r s) where
   pub call-none-means : (r ≡ 0) ↔ Reported card report
   call-none-means = rw (post .0) (number-none-means card report)
 
-  pub call-either : (r ≡ 0) ⊎ ((r ≡ 10) ⊎ ((r ≡ 17) ⊎ CardsOwn r))
+  pub call-either : HostGives r
   call-either = rw (post .0) (number-either card report)
 
   pub call-kept : r ≢ 0 → after ≡ report

@@ -3,7 +3,8 @@
 -- The number:
 --   host-says              it is n exactly when case n of specs/Meaning holds
 --   number-none-means      the number is 0 exactly when the report has room for 38 bytes, the card is good and has two parcels (`Reported`)
---   number-either          it is 0, 10, 17 or one of the numbers of a card, and no other: 13 never comes
+--   number-either          it is 0, 10, one of the numbers of a card, or 17, and no other (`HostGives`; that each of them comes: proofs/Numbers)
+--   number-not-withheld    so it is never the number that was taken out
 -- The report:
 --   report-kept            beside a number that is not 0 it is as it was found
 --   report-length          it is always as long as it was
@@ -14,7 +15,7 @@
 --   report-tile            bit t of its number 3 is 1 exactly when the first region has tile t of the second's box;  report-back-tile  bit t of number
 --                          4 exactly when the second has tile t of the first's
 use mathlib.Core.Path.{_≡_, refl, sym, _∙_, ap, subst}
-use mathlib.Core.Logic.{_↔_, _⊎_, _≢_, inl, inr}
+use mathlib.Core.Logic.{_↔_, _≢_, inl, inr, ⊎-elim}
 use mathlib.Core.List.{List, [], _∷_, _++_}
 use Prim.Native.Nat.{ℕ, _+_, _-_, _*_, _/_, _%_, _≤_, _<_}
 use native.Mathlib.Omega.{arith}
@@ -25,6 +26,7 @@ use borrow.Author.Tests.{eq-eqb, ne-eqb}
 use Rattle.plane.specs.Points.{Lines}
 use Rattle.plane.specs.TileSet.{bit}
 use Rattle.plane.proofs.Lists.{length-tab}
+use Rattle.region.specs.Refusals.{withheld}
 use Rattle.region.specs.Region.{Region, lastEnd}
 use Rattle.region.specs.Rules.{KeepsRules}
 use Rattle.region.proofs.Keeps.{keeps-fewer, sized}
@@ -33,7 +35,7 @@ use Rattle.matrix.specs.Matrix.{flatOf}
 use Rattle.pair.specs.declared.Answer.{Answer}
 use Rattle.pair.specs.Answer.{given, pairOf, reportWords}
 use Rattle.pair.specs.Meaning.{Answered}
-use Rattle.pair.proofs.Laws.{number-means, fields-are, tile-means, back-tile-means, pieces-between, back-pieces-between, relation-below, back-relation-below}
+use Rattle.pair.proofs.Laws.{fields-are, tile-means, back-tile-means, pieces-between, back-pieces-between, relation-below, back-relation-below}
 use Rattle.pair.proofs.Refusals.{answered-named}
 use Rattle.pair.proofs.Cells.{rows-between, columns-between, cell-most}
 use Rattle.pair.proofs.Directions.{directions-below}
@@ -46,9 +48,9 @@ use Rattle.carried.specs.Pairs.{pairIn}
 use Rattle.card.proofs.Good.{good-means}
 use Rattle.card.proofs.Numbers.{not-good-means}
 use Rattle.card.proofs.Says.{card-says}
-use Rattle.host.specs.Meaning.{Reported, HostSays, host-short, host-card, host-count, host-done, ReportHas}
+use Rattle.host.specs.Meaning.{Reported, HostSays, host-short, host-card, host-count, host-done, HostGives, ReportHas}
 use Rattle.host.specs.Report.{reportNumbers, reportLength, reportBytes, hostNumber, hostReport}
-use Rattle.host.proofs.Report.{report-short, report-card, report-parcels, report-done}
+use Rattle.host.proofs.Report.{report-short, report-card, report-parcels, report-none}
 use Rattle.endian.proofs.Words.{word-read, Small, small-none, small-more, small-append}
 
 module _ (a : Answer) (nine : length (a .cells) ≡ 9) where
@@ -81,8 +83,7 @@ module _ (card report : List ℕ) where
 
   -- ---- the number, by cases
   accepted : Reported card report → 0 ≡ hostNumber card report
-  unfolding pairIn
-  accepted r = report-done card report (r .room) (good-means card .1 (r .good)) (r .two) {a = answer} refl (number-means first second .1 (answered r)) refl .0
+  accepted r = report-none card report (r .room) (good-means card .1 (r .good)) (r .two)
 
   host-back : {n : ℕ} → HostSays card report n → hostNumber card report ≡ n
   host-back (host-short l) = sym (report-short card report l .0)
@@ -118,14 +119,20 @@ module _ (card report : List ℕ) where
       go (host-count room good e) z = absurd (omega arith)
       go (host-done r) z = r
 
-  pub number-either : (hostNumber card report ≡ 0) ⊎ ((hostNumber card report ≡ 10) ⊎ ((hostNumber card report ≡ 17) ⊎ CardsOwn (hostNumber card report)))
+  pub number-either : HostGives (hostNumber card report)
   number-either = go host-case
     where
-      go : {n : ℕ} → HostSays card report n → (n ≡ 0) ⊎ ((n ≡ 10) ⊎ ((n ≡ 17) ⊎ CardsOwn n))
+      go : {n : ℕ} → HostSays card report n → HostGives n
       go (host-short l) = inr (inl refl)
       go (host-card {n} room bad c) = inr (inr (inr (subst CardsOwn (card-says card n .1 c) (not-good-means card .1 bad))))
       go (host-count room good e) = inr (inr (inl refl))
       go (host-done r) = inl refl
+
+  pub number-not-withheld : hostNumber card report ≢ withheld
+  number-not-withheld e =
+      ⊎-elim (λ z. omega (arith, z, e))
+      (⊎-elim (λ z. omega (arith, z, e)) (⊎-elim (λ z. omega (arith, z, e)) (⊎-elim (λ p. omega (arith, p .1, e)) (λ p. omega (arith, p .0, e)))))
+      number-either
 
   -- ---- the report
   pub report-kept : hostNumber card report ≢ 0 → hostReport card report ≡ report

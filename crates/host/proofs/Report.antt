@@ -1,6 +1,6 @@
 -- The call's number and report, one refusal after another.
---   report-short, report-card, report-parcels, report-pair     refused with 10, the card's own number, 17, the pair's number
---   report-done        the 19 numbers are there, and the bytes past them stay
+--   report-short, report-card, report-parcels     refused with 10, the card's own number, 17
+--   report-none        none of these: the number is 0;  report-done  the 19 numbers are there, and the bytes past them stay
 use mathlib.Core.Path.{_≡_, refl, sym, _∙_, ap}
 use mathlib.Core.Logic.{_≢_}
 use mathlib.Core.List.{List, _++_}
@@ -42,22 +42,19 @@ module _ (card report : List ℕ) where
       unfolding hostNumber
       report-parcels z = refused 17 (λ q. omega arith) (rw (le-ltb (length report) reportLength room, good, ne-eqb (parcelCount card) 2 z) refl)
 
-      module _ (two : parcelCount card ≡ 2) {a : Answer} (is : a ≡ pairIn card 0 1) where
-        number-is : a .number ≡ hostNumber card report
+      module _ (two : parcelCount card ≡ 2) where
+        pub report-none : 0 ≡ hostNumber card report
         unfolding hostNumber
-        number-is = rw (le-ltb (length report) reportLength room, good, eq-eqb (parcelCount card) 2 two) (ap (λ (x : Answer). x .number) is)
+        report-none = rw (le-ltb (length report) reportLength room, good, eq-eqb (parcelCount card) 2 two) refl
 
-        pub report-pair : a .number ≢ 0 → (a .number ≡ hostNumber card report) × (report ≡ hostReport card report)
-        report-pair z = refused (a .number) z number-is
-
-        pub report-done : a .number ≡ 0 → {b : List ℕ} → b ≡ placed report 0 (reportBytes a) → (0 ≡ hostNumber card report) × (b ≡ hostReport card report)
+        pub report-done : {a : Answer} → a ≡ pairIn card 0 1 → {b : List ℕ} → b ≡ placed report 0 (reportBytes a)
+            → (0 ≡ hostNumber card report) × (b ≡ hostReport card report)
         unfolding hostReport
-        report-done z e =
-            let n = sym z ∙ number-is in
+        report-done {a} is e =
             let l = report-long a in (
-              n,
+              report-none,
               e ∙ placed-whole report (reportBytes a) (omega (arith, l, room))
                   ∙ ap (λ (k : ℕ). reportBytes a ++ drop k report) l
                   ∙ ap (λ (x : Answer). reportBytes x ++ drop reportLength report) is
-                  ∙ sym (rw (eq-eqb (hostNumber card report) 0 (sym n)) refl),
+                  ∙ sym (rw (eq-eqb (hostNumber card report) 0 (sym report-none)) refl),
             )

@@ -28,9 +28,6 @@ pub extern "C" fn direction_report(card: &[u8], report: &mut [u8]) -> u32
         return NOT_TWO_PARCELS as u32;
     }
     let a = pair_in(card, 0, 1);
-    if a.number != 0 {
-        return a.number as u32;
-    }
     put_words(report, 0, &report_words(a));
     0
 }

@@ -25,14 +25,14 @@ use Rattle.matrix.specs.Holding.{insert, linesOf, cellAt, rangeOf, holds}
 use Rattle.matrix.specs.Matrix.{cellValue, matrixOf, flatOf}
 use Rattle.compass.specs.Directions.{sideOf, holdsFirst, holdsSecond, compassPlace, directed, directionsOf}
 use Rattle.pair.specs.declared.Answer.{Answer}
-use Rattle.pair.specs.Answer.{pairOf, answerOf, answerFor, given, aroundOf}
+use Rattle.pair.specs.Answer.{pairOf, answerOf, given, aroundOf}
 use Rattle.outlines.specs.Rows.{Row, rows}
 
 abbrev pub answerTo : Row → Answer
 answerTo r = pairOf (r .first) (r .second)
 
 pub table : map answerTo rows ≡ map (λ r. r .answer) rows
-unfolding placeOf inRange anyTo sumTo firstOf leastTo greatestTo tabFrom setOf sooner riseOf fallOf axisOf linesAtStart linesPast rangeAfter tileOf enterOf stepOf stateOf listOf standsIn countIn has pieces straddles overlap ends-apart shares one-side folds nextOf ringEdge stretchBox covers equalEnds repeated tangledPair tangled clockwise eastward crossesAt enclosesAt edgesHave ringHas ringPieces shortAt outsideIn breaksAt firstBreaking shapeOf checkOf regionBox regionHas relationOf regionPieces insert linesOf cellAt rangeOf holds cellValue matrixOf flatOf sideOf holdsFirst holdsSecond compassPlace directed directionsOf pairOf answerOf answerFor given
+unfolding placeOf inRange anyTo sumTo firstOf leastTo greatestTo tabFrom setOf sooner riseOf fallOf axisOf linesAtStart linesPast rangeAfter tileOf enterOf stepOf stateOf listOf standsIn countIn has pieces straddles overlap ends-apart shares one-side folds nextOf ringEdge stretchBox covers equalEnds repeated tangledPair tangled clockwise eastward crossesAt enclosesAt edgesHave ringHas ringPieces shortAt outsideIn breaksAt firstBreaking shapeOf checkOf regionBox regionHas relationOf regionPieces insert linesOf cellAt rangeOf holds cellValue matrixOf flatOf sideOf holdsFirst holdsSecond compassPlace directed directionsOf pairOf answerOf given
 table = refl
 
 pub words : map (λ r. aroundOf (r .answer)) rows ≡ map (λ r. r .around) rows

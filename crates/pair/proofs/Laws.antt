@@ -2,7 +2,7 @@
 -- and ring in proofs/Refusals, rows, columns and cells in proofs/Cells, directions in proofs/Directions; the word "around" in proofs/Surrounding.
 --   number-means      number 0 exactly when both regions keep rules 1 to 7: they are `Answered`;  four  they keep rules 1 to 4 then
 --   fields-are        the fields of such an answer
---   some-tile         it is never refused for want of a tile
+--   some-tile         neither relation of it is 0;  has-tile, has-back-tile  for each region has a tile of the other's box
 --   tile-means, back-tile-means         tile k is in the relation of the first region to the second, of the second to the first, exactly
 --                     when the document's rule finds it there
 --   pieces-mean, back-pieces-mean       the pieces of the first region against the second's box, of the second against the first's
@@ -12,7 +12,6 @@ use mathlib.Core.Path.{_≡_, refl, ap}
 use mathlib.Core.Logic.{_↔_, _≢_}
 use Prim.Native.Nat.{ℕ, zero, suc, _*_, _≤_, _<_}
 use native.Mathlib.Omega.{arith}
-use borrow.Author.Tests.{ne-eqb}
 use Rattle.plane.specs.Points.{Lines}
 use Rattle.plane.specs.TileSet.{bit}
 use Rattle.region.specs.declared.Checked.{Checked}
@@ -23,11 +22,10 @@ use Rattle.region.specs.Check.{checkOf}
 use Rattle.region.proofs.Keeps.{keeps-fewer}
 use Rattle.region.proofs.Check.{accepted-means, refused-means}
 use Rattle.relation.specs.Relation.{RegionBox, RegionHas, RegionPieces, regionBox, relationOf, regionSeen}
-use Rattle.relation.proofs.Regions.{region-upright}
 use Rattle.relation.proofs.Relation.{relation-tile, pieces-count, region-pieces-le, relation-lt}
-use Rattle.relation.proofs.Never.{relation-some}
+use Rattle.relation.proofs.Never.{never-none, region-tile}
 use Rattle.pair.specs.declared.Answer.{Answer}
-use Rattle.pair.specs.Answer.{orRefused, given, answerFor, answerOf, pairOf}
+use Rattle.pair.specs.Answer.{orRefused, given, answerOf, pairOf}
 use Rattle.pair.specs.Meaning.{Answered}
 
 module _ (first second : Region) where
@@ -39,20 +37,17 @@ module _ (first second : Region) where
     four = (keeps-fewer (omega arith) (a .first-kept), keeps-fewer (omega arith) (a .second-kept))
 
     pub some-tile : (relationOf (regionBox second) first ≢ 0) × (relationOf (regionBox first) second ≢ 0)
-    some-tile = (
-      relation-some (regionBox second) (region-upright second) (keeps-fewer (omega arith) (a .first-kept)),
-      relation-some (regionBox first) (region-upright first) (keeps-fewer (omega arith) (a .second-kept)),
-    )
+    some-tile = (never-none (keeps-fewer (omega arith) (a .first-kept)) second, never-none (keeps-fewer (omega arith) (a .second-kept)) first)
+
+    pub has-tile : (M : Lines) → RegionBox second M → (t : ℕ) × (t < 9) × RegionHas M first t
+    has-tile M is = region-tile (keeps-fewer (omega arith) (a .first-kept)) second (four .1) M is
+
+    pub has-back-tile : (L : Lines) → RegionBox first L → (t : ℕ) × (t < 9) × RegionHas L second t
+    has-back-tile L is = region-tile (keeps-fewer (omega arith) (a .second-kept)) first (four .0) L is
 
     pub fields-are : pairOf first second ≡ whole
-    unfolding pairOf answerOf answerFor
-    fields-are =
-        rw (
-          accepted-means first .1 (a .first-kept),
-          accepted-means second .1 (a .second-kept),
-          ne-eqb (relationOf (regionBox second) first) 0 (some-tile .0),
-          ne-eqb (relationOf (regionBox first) second) 0 (some-tile .1),
-        ) refl
+    unfolding pairOf answerOf
+    fields-are = rw (accepted-means first .1 (a .first-kept), accepted-means second .1 (a .second-kept)) refl
 
     pub tile-means : (M : Lines) → RegionBox second M → (k : ℕ) → k < 9 → (bit (pairOf first second .first) k ≡ 1) ↔ RegionHas M first k
     unfolding given

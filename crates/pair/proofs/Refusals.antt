@@ -4,13 +4,15 @@
 --   refused-means           the answer is the refusal that names them, with every other field 0, exactly when that is so
 --   answered-named          an answer that is no refusal has number, region and ring 0 (when that is: proofs/Laws, `number-means`)
 --   answered-or-refused     there is no third case
---   number-most             the number is 0 to 7: 13 never comes
+--   number-most             the number is one of 0 to 7, and no other (that each of them comes: outlines/proofs/Numbers);  number-not-withheld  so it
+--                           is never the one that was taken out
 use mathlib.Core.Path.{_≡_, refl, sym, _∙_, ap}
 use mathlib.Core.Logic.{_↔_, _⊎_, _≢_, inl, inr, ⊎-elim}
 use Prim.Native.Nat.{ℕ, _≤_}
 use native.Mathlib.Omega.{arith}
 use Rattle.region.specs.declared.Checked.{Checked}
 use Rattle.region.specs.declared.Checked.the-variants.{Accepted, Refused}
+use Rattle.region.specs.Refusals.{withheld}
 use Rattle.region.specs.Region.{Region}
 use Rattle.region.specs.Rules.{KeepsRules}
 use Rattle.region.specs.Check.{checkOf}
@@ -78,3 +80,6 @@ module _ (first second : Region) where
 
       refused : (n : ℕ) × (g : ℕ) × (r : ℕ) × RefusedPair first second n g r → pairOf first second .number ≤ 7
       refused x = rw (refusal-is (x .0) (x .1) (x .2) (x .3)) (low (x .0) (x .1) (x .2) (x .3))
+
+  pub number-not-withheld : pairOf first second .number ≢ withheld
+  number-not-withheld e = omega (arith, number-most, e)

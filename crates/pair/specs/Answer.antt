@@ -1,10 +1,9 @@
--- SCOPE 6.1, 6.2, 5.5: the pair call. Region 1 is wholly checked, then region 2, and a refusal says which of them it is of; of number 13 it
--- is the region whose relation has no tile. Beside a refusal all other fields are 0. A region is around the other where it has all eight
--- tiles round the other's box and not B, and the other has B of its box and no tile besides.
+-- SCOPE 6.1, 6.2, 5.5: the pair call. Region 1 is wholly checked, then region 2, and a refusal says which of them it is of. Beside a refusal
+-- all other fields are 0. A region is around the other where it has all eight tiles round the other's box and not B, and the other has B of
+-- its box and no tile besides.
 --   refusedWith n g r          the refusal with number n that names region g and ring r
 --   orRefused c g a            the answer a where the check c accepts region g, and its refusal where not
 --   given a b there back       the answer's fields for two boxes and what each region shows of the other's
---   answerFor a b there back   the same, or the refusal where one of them has no tile
 --   answerOf first second      the answer for two regions that are accepted
 --   pairOf first second        the pair answer for any two regions. Its meaning: proofs/Laws
 --   eight, middle              the eight tiles without B, and B alone, as sets
@@ -16,12 +15,10 @@ use mathlib.Core.List.{List, [], _∷_, _++_}
 use Prim.Native.Nat.{ℕ}
 use lib.Dec.{eqb}
 use lib.ListN.{replicate}
-use Rattle.plane.specs.Choice.{pick}
 use Rattle.plane.specs.declared.Box.{Box}
 use Rattle.seen.specs.declared.Seen.{Seen}
 use Rattle.region.specs.declared.Checked.{Checked}
 use Rattle.region.specs.declared.Checked.the-variants.{Accepted, Refused}
-use Rattle.region.specs.Refusals.{number, no-tile}
 use Rattle.region.specs.Region.{Region}
 use Rattle.region.specs.Check.{checkOf}
 use Rattle.relation.specs.Relation.{regionBox, regionSeen}
@@ -67,13 +64,9 @@ given a b there back =
       «second_pieces» = back .pieces;
     }
 
-unfoldable pub answerFor : (a b : Box) (there back : Seen) → Answer
-answerFor a b there back =
-    pick (eqb (there .set) 0) (refusedWith (number no-tile) 1 0) (pick (eqb (back .set) 0) (refusedWith (number no-tile) 2 0) (given a b there back))
-
 unfoldable pub answerOf : (first second : Region) → Answer
 answerOf first second =
-    answerFor (regionBox first) (regionBox second) (regionSeen (regionBox second) first) (regionSeen (regionBox first) second)
+    given (regionBox first) (regionBox second) (regionSeen (regionBox second) first) (regionSeen (regionBox first) second)
 
 unfoldable pub pairOf : (first second : Region) → Answer
 pairOf first second = orRefused (checkOf first) 1 (orRefused (checkOf second) 2 (answerOf first second))

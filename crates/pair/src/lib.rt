@@ -10,7 +10,6 @@ use matrix::matrix_of;
 use outline::check_region;
 use plane::Box;
 use region::Checked;
-use region::refusals::NO_TILE;
 use relation::region_box;
 use relation::region_seen;
 use seen::Seen;
@@ -98,12 +97,6 @@ fn answer_of(first: &[i32], first_ends: &[u16], second: &[i32], second_ends: &[u
     let b = region_box(second, second_ends);
     let there = region_seen(b, a, first, first_ends);
     let back = region_seen(a, b, second, second_ends);
-    if there.set == 0 {
-        return refused(NO_TILE, 1, 0);
-    }
-    if back.set == 0 {
-        return refused(NO_TILE, 2, 0);
-    }
     given(a, b, there, back)
 }
 

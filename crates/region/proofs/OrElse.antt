@@ -2,6 +2,7 @@
 --   or-else-first    the first where it is not 0;  or-else-next  the next where it is
 --   or-else-none     0 exactly where both are 0
 --   number-some      no refusal has number 0;  number-if-none  so its number is 0 exactly where the test finds nothing
+--   number-not-withheld    none has the number that was taken out
 --   first-number-none    no number exactly where all are 0
 --   Zeros f n k      the first k of n numbers are 0, as a search from the front goes through them;  zeros-none, zeros-more  before the first
 --                    turn, after one turn more;  zeros-hit, zeros-all  a number that is not 0, and none
@@ -13,7 +14,7 @@ use native.Mathlib.Omega.{arith}
 use native.Mathlib.Decide.{ℕ-discrete}
 use borrow.Author.Count.{below-none, below-more}
 use Rattle.plane.proofs.Logic.{never}
-use Rattle.region.specs.Refusals.{Refusal, number, numberIf, orElse, firstNumber, ring-count, ring-length, list-size, coordinate-range, vertex-repeated, edges-meet, not-clockwise, slot-number, slot-empty, buffer-short, sheet-lists, sheet-damaged, no-tile, card-header, card-parcels, card-vertices, not-two-parcels}
+use Rattle.region.specs.Refusals.{Refusal, number, numberIf, orElse, firstNumber, ring-count, ring-length, list-size, coordinate-range, vertex-repeated, edges-meet, not-clockwise, slot-number, slot-empty, buffer-short, sheet-lists, sheet-damaged, withheld, card-header, card-parcels, card-vertices, not-two-parcels}
 
 pub or-else-first : (a b : ℕ) → a ≢ 0 → orElse a b ≡ a
 or-else-first zero b h = absurd (h refl)
@@ -40,11 +41,28 @@ number-some slot-empty e = omega arith
 number-some buffer-short e = omega arith
 number-some sheet-lists e = omega arith
 number-some sheet-damaged e = omega arith
-number-some no-tile e = omega arith
 number-some card-header e = omega arith
 number-some card-parcels e = omega arith
 number-some card-vertices e = omega arith
 number-some not-two-parcels e = omega arith
+
+pub number-not-withheld : (k : Refusal) → number k ≢ withheld
+number-not-withheld ring-count e = omega arith
+number-not-withheld ring-length e = omega arith
+number-not-withheld list-size e = omega arith
+number-not-withheld coordinate-range e = omega arith
+number-not-withheld vertex-repeated e = omega arith
+number-not-withheld edges-meet e = omega arith
+number-not-withheld not-clockwise e = omega arith
+number-not-withheld slot-number e = omega arith
+number-not-withheld slot-empty e = omega arith
+number-not-withheld buffer-short e = omega arith
+number-not-withheld sheet-lists e = omega arith
+number-not-withheld sheet-damaged e = omega arith
+number-not-withheld card-header e = omega arith
+number-not-withheld card-parcels e = omega arith
+number-not-withheld card-vertices e = omega arith
+number-not-withheld not-two-parcels e = omega arith
 
 pub number-if-none : (t : Bool) (k : Refusal) → (numberIf t k ≡ 0) ↔ (t ≡ false)
 number-if-none true k = (λ e. absurd (number-some k e), λ e. never (sym e))

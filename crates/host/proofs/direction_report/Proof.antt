@@ -11,7 +11,7 @@ use Rattle.card.specs.Reading.{parcelCount}
 use Rattle.card.specs.CardNumber.{cardNumber}
 use Rattle.card.proofs.Good.{good-means}
 use Rattle.host.specs.Report.{reportNumbers, reportLength, reportBytes}
-use Rattle.host.proofs.Report.{report-short, report-card, report-parcels, report-pair, report-done}
+use Rattle.host.proofs.Report.{report-short, report-card, report-parcels, report-done}
 use Rattle.host.proofs.direction_report.Statement.{statement}
 use Rattle.host.proofs.direction_report.Tie as tie
 
@@ -58,15 +58,6 @@ returns-3 c =
 pair-in-requires : tie.Need-pair-in-requires
 pair-in-requires c κs = search needs
 
-cast-result-4 : tie.Need-cast-result-4
-cast-result-4 c = search needs
-
-returns-4 : tie.Need-returns-4
-returns-4 c =
-    let a = c .before .before .before in
-    let e = a .before .before .before in
-    report-pair _ _ (room (e .before .before)) (good e) (two (a .before)) (a .pair-in .ensures) (c .before .if4 .taken)
-
 report-words-requires : tie.Need-report-words-requires
 report-words-requires c κs = search needs
 
@@ -79,19 +70,18 @@ nineteen c = search needs
 
 put-words-requires : tie.Need-put-words-requires
 put-words-requires c κs =
-    let e = c .before .before .before .before .before .before .before .before in
+    let e = c .before .before .before .before .before .before in
     omega (arith, nineteen c, room (e .before .before))
 
 same-length : tie.Need-same-length
 same-length c = search needs
 
-returns-5 : tie.Need-returns-5
-returns-5 c =
+returns-4 : tie.Need-returns-4
+returns-4 c =
     let w = c .before .before in
-    let d = w .before .before .before .before in
-    let a = d .before .before in
+    let a = w .before .before .before .before in
     let e = a .before .before .before in
-    report-done _ _ (room (e .before .before)) (good e) (two (a .before)) (a .pair-in .ensures) (d .if4 .left)
+    report-done _ _ (room (e .before .before)) (good e) (two (a .before)) (a .pair-in .ensures)
     (written _ (a .pair-in .result) (w .put-words .ensures) (nineteen (w .before)) (w .before .before .report-words .ensures))
 
 pub direction-report-spec : {M : Type 1} → statement M
@@ -107,10 +97,8 @@ direction-report-spec =
     cast-result-3
     returns-3
     pair-in-requires
-    cast-result-4
-    returns-4
     report-words-requires
     slice-aggregate-put-words
     put-words-requires
     same-length
-    returns-5)
+    returns-4)
