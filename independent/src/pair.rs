@@ -3,7 +3,6 @@
 
 use crate::check::{check, Broken};
 use crate::matrix::{directions, matrix, Matrix, Side};
-use crate::refusal::Refusal;
 use crate::region::{Outline, Region};
 use crate::relation::{pieces, relation};
 use crate::tile;
@@ -29,21 +28,13 @@ pub struct PairRefusal {
     pub region: u16,
 }
 
-/// The pair call: region 1 is checked wholly first; a relation without a tile
-/// is refused last.
+/// The pair call: region 1 is checked wholly first. Two regions that are
+/// accepted always have an answer (request L10 of document 02).
 pub fn pair(first: &Outline, second: &Outline) -> Result<Comparison, PairRefusal> {
     let in_region = |region| move |broken| PairRefusal { broken, region };
     let first = check(first).map_err(in_region(1))?;
     let second = check(second).map_err(in_region(2))?;
-    let comparison = compare(&first, &second);
-    let relations = [comparison.first_to_second, comparison.second_to_first];
-    for (region, relation) in (1..).zip(relations) {
-        if relation == 0 {
-            let rule = Refusal::NoTile;
-            return Err(in_region(region)(Broken { rule, ring: 0 }));
-        }
-    }
-    Ok(comparison)
+    Ok(compare(&first, &second))
 }
 
 /// Where two accepted regions lie from each other.

@@ -1,5 +1,6 @@
 //! The numbers of refusals. Document 01, the table in "Outlines that are
-//! accepted".
+//! accepted", without its row 13: request L10 of document 02 takes that out,
+//! and gives the number to nothing else.
 
 /// Why a call is refused; each case has its number of the table.
 #[derive(Clone, Copy, Debug, PartialEq, Eq)]
@@ -16,7 +17,6 @@ pub enum Refusal {
     BufferTooShort = 10,
     ListLength = 11,
     SheetDamaged = 12,
-    NoTile = 13,
     CardHeader = 14,
     CardEntries = 15,
     CardVertices = 16,
@@ -33,4 +33,35 @@ impl Refusal {
 /// What a call answers for its outcome: the refusal's number, or 0.
 pub fn number<T>(outcome: &Result<T, Refusal>) -> u16 {
     outcome.as_ref().err().map_or(0, |refusal| refusal.number())
+}
+
+#[cfg(test)]
+mod tests {
+    use super::*;
+
+    #[test]
+    fn no_refusal_has_number_13() {
+        let before = [
+            Refusal::RingCount,
+            Refusal::ShortRing,
+            Refusal::VertexCount,
+            Refusal::OutOfRange,
+            Refusal::RepeatedVertex,
+            Refusal::TouchesItself,
+            Refusal::NotClockwise,
+            Refusal::SlotTooHigh,
+            Refusal::SlotEmpty,
+            Refusal::BufferTooShort,
+            Refusal::ListLength,
+            Refusal::SheetDamaged,
+        ];
+        let after = [
+            Refusal::CardHeader,
+            Refusal::CardEntries,
+            Refusal::CardVertices,
+            Refusal::NotTwoParcels,
+        ];
+        assert!(before.map(Refusal::number).into_iter().eq(1..=12));
+        assert!(after.map(Refusal::number).into_iter().eq(14..=17));
+    }
 }

@@ -170,16 +170,20 @@ fn requests_with_bytes_changed_get_one_answer_a_line() {
 
 /// The first numbers of the answers to requests that answer a number.
 fn numbers_given(requests: &[u8]) -> BTreeSet<u16> {
+    let words = [
+        "pair", "put", "remove", "clear", "cell", "load", "write", "host",
+    ];
+    numbers_given_to(&words, requests)
+}
+
+/// The first numbers of the answers to requests with one of these words.
+fn numbers_given_to(words: &[&str], requests: &[u8]) -> BTreeSet<u16> {
     let text = String::from_utf8(requests.to_vec()).expect("requests are plain text");
     let mut numbers = BTreeSet::new();
     for (request, answer) in text.lines().zip(ask(requests)) {
         assert_ne!(answer, "?", "{request}");
         let word = request.split(' ').next().unwrap_or_default();
-        if [
-            "pair", "put", "remove", "clear", "cell", "load", "write", "host",
-        ]
-        .contains(&word)
-        {
+        if words.contains(&word) {
             let number = answer.split(' ').next().unwrap_or_default();
             numbers.insert(number.parse().expect("a number in front"));
         }
@@ -256,4 +260,13 @@ fn a_batch_of_cards_has_every_number() {
     for number in [0, 2, 3, 4, 5, 6, 7, 10, 11, 14, 15, 16, 17] {
         assert!(numbers.contains(&number), "{number} in {numbers:?}");
     }
+}
+
+#[test]
+fn pair_and_host_give_these_numbers_and_no_others() {
+    let pairs = made(Kind::Pairs, 4_000, 2);
+    assert_eq!(numbers_given_to(&["pair"], &pairs), (0..=7).collect());
+    let cards = made(Kind::Cards, 1_000, 2);
+    let numbers = [0, 10, 14, 15, 2, 3, 16, 4, 5, 6, 7, 17];
+    assert_eq!(numbers_given_to(&["host"], &cards), numbers.into());
 }

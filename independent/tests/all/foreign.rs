@@ -55,6 +55,29 @@ fn an_edge_with_equal_ends_is_one_piece_without_a_tile() {
 }
 
 #[test]
+fn three_vertices_that_keep_rule_5_have_a_tile_of_any_box() {
+    // Whether they turn clockwise, the other way or lie in a line; boxes without
+    // width or height too. Every way to draw them on a grid of 4 by 4.
+    let grid = |number: i32| (number % 4, number / 4);
+    let mut boxes = Vec::new();
+    for corner in 0..16 {
+        for opposite in corner..16 {
+            boxes.push(region(&[vec![grid(corner), grid(opposite), grid(corner)]]).bounds());
+        }
+    }
+    for first in 0..16 {
+        for second in (0..16).filter(|&second| second != first) {
+            for third in (0..16).filter(|&third| third != first && third != second) {
+                let ring = region(&[vec![grid(first), grid(second), grid(third)]]);
+                for bounds in &boxes {
+                    assert_ne!(relation(&ring, bounds), 0, "{ring:?} {bounds:?}");
+                }
+            }
+        }
+    }
+}
+
+#[test]
 fn an_edge_with_equal_ends_does_not_count_for_the_centre() {
     // A round the box, with a vertex repeated straight east of the centre.
     let ring = vec![(-5, -5), (-5, 15), (15, 15), (15, 5), (15, 5), (15, -5)];
