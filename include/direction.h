@@ -67,6 +67,7 @@ uint32_t direction_report(const uint8_t *card, size_t card_length, uint8_t *repo
 #define DIRECTION_REFUSED_EDGES_MEET 6     /* edges of one ring cross, touch or fold back on each other */
 #define DIRECTION_REFUSED_TURN 7           /* a ring not clockwise.  4 to 7: parcel by parcel, in a parcel the lowest first */
 #define DIRECTION_REFUSED_NOT_TWO 17       /* the card is good, but does not hold exactly two parcels */
+
 /* Proved: one of these or 0 is answered, and no other number. 13 stood for a relation without a tile, which two good parcels never have;
  * it was taken out, and no refusal to come gets it. */
 
