@@ -117,7 +117,7 @@ static inline unsigned direction_word(const uint8_t *report, unsigned place)
  * recursion and no frame of variable size, so its deepest chain of calls tells what any card can take. Seen in runs (tools/host-cost.c):
  * 3,456 bytes, the most over 2,001 cards, the 2,000 good and bad ones that `independent cards 2000 1` makes and examples/two-parcels.card,
  * with the memcpy and memset of the C library that rt's programs run with; another card may take more, up to the first number. Code and
- * constants: 24,659 bytes (readelf). The gate (.ci/run) takes all three again and holds them to the sizes above.
+ * constants: 24,499 bytes (readelf). The gate (.ci/run) takes all three again and holds them to the sizes above.
  *
  * Instructions: 5,698,258 on a card of 32 parcels, each a spiral that stands on its corner, the last one turned round: all are checked, and
  * then the card is refused with 7. 652,065 on a card of two such spirals, which is answered. Counted by valgrind's callgrind
