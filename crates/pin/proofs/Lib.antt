@@ -4,6 +4,7 @@ pub mod Parity
 pub mod Untouched
 pub mod Entered
 pub mod Origin
+pub mod Laws
 pub mod TileLaws
 pub mod Pins
 pub mod Alone

@@ -1,5 +1,5 @@
 -- Pins over coordinates, in the numbers of Parity: one or two pins with their denominators, a ring, and the lines of a box, all times one number m
--- and counted from one corner that lies far enough west and south. What only carries the proofs of TileLaws and Sides.
+-- and counted from one corner that lies far enough west and south. What only carries the proofs of Laws.
 --   X, Y            the coordinates of the vertices of a list, m times, from the corner o further off than the range
 --   View P Q        such a corner for two pins, and their distances from it;  view  there is one
 --   counted-odd     a ring encloses a pin exactly where an odd number of its edges pass a test that says whether they cross
@@ -7,6 +7,7 @@
 --   XX, YY          the ring's vertices from the corner of two pins, times both denominators;  odd-first, odd-second  each of the two pins is
 --                   enclosed exactly where it is odd in these numbers
 --   in-range        a pin in a range of an axis, by these numbers;  in-column  the same f times more
+--   short-pin, not-past-pin, not-short-pin    in one axis, a point of an edge is short of the pin, not past it, not short of it
 use mathlib.Core.Path.{_≡_, refl, _∙_, ap}
 use mathlib.Core.Logic.{_↔_, inl, inr, ⊎-elim}
 use mathlib.Core.Bool.{Bool, true}
@@ -15,9 +16,9 @@ use Prim.Native.Nat.{ℕ, zero, suc, _+_, _-_, _*_, _%_, _≤_, _<_}
 use native.Mathlib.Omega.{arith}
 use native.Mathlib.Nat.{mul-comm, mul-le-mul-left, mul-lt-mul-of-pos-left, lt-of-mul-lt-mul-left, le-of-mul-le-mul-left, eq-of-mul-eq-mul-left}
 use lib.IntN.{ℤ, pos, negsuc, _*ℤ_}
-use lib.Signed.{mag, _<ℤ_}
+use lib.Signed.{mag, _<ℤ_, _≤ℤ_}
 use Rattle.plane.specs.Place.{placeOf, inRange}
-use Rattle.plane.specs.Points.{vertex}
+use Rattle.plane.specs.Points.{vertex, along}
 use Rattle.plane.specs.Ray.{Pin, CrossesRay}
 use Rattle.plane.specs.Tiles.{Inside}
 use Rattle.plane.specs.Folds.{sumTo}
@@ -30,7 +31,7 @@ use Rattle.ring.specs.Edges.{corner, after, RingInRange}
 use Rattle.ring.specs.Enclosed.{Enclosed}
 use Rattle.ring.proofs.Edges.{after-in-range}
 use Rattle.ring.proofs.Ray.{East}
-use Rattle.ring.proofs.Enclosed.{shift-lt, end-place, end-high, From, crosses-from}
+use Rattle.ring.proofs.Enclosed.{shift-lt, shift-le, end-place, point, point-place, pin-place, end-high, From, crosses-from}
 use Rattle.pin.proofs.Parity.{Odd, crossAt, east-of}
 
 module _ (xs : List ℤ) (o m : ℕ) where
@@ -73,6 +74,26 @@ view P Q =
 
 -- ---- one axis: a pin with the denominator d, p from the corner, beside what ring's Enclosed has
 module _ (o d : ℕ) (z : ℤ) (p : ℕ) (place : Diff z p (d * (1000000 + o))) where
+  -- the point of the edge from a to b with the weights j and k
+  module _ (a : ℤ) (ha : inRange a ≡ true) (b : ℤ) (hb : inRange b ≡ true) (j k : ℕ) where
+    abbrev on-edge : ℤ
+    on-edge = pos d *ℤ along (j + k) k a b
+
+    abbrev there : ℕ
+    there = point o d a ha b hb j k
+
+    abbrev shift : ℕ
+    shift = (j + k) * (d * (1000000 + o))
+
+    pub short-pin : (on-edge <ℤ (pos (j + k) *ℤ z)) ↔ (there < (j + k) * p)
+    short-pin = shift-lt on-edge (pos (j + k) *ℤ z) there ((j + k) * p) shift (point-place o d a ha b hb j k) (pin-place o d z p place (j + k))
+
+    pub not-past-pin : (on-edge ≤ℤ (pos (j + k) *ℤ z)) ↔ (there ≤ (j + k) * p)
+    not-past-pin = shift-le on-edge (pos (j + k) *ℤ z) there ((j + k) * p) shift (point-place o d a ha b hb j k) (pin-place o d z p place (j + k))
+
+    pub not-short-pin : ((pos (j + k) *ℤ z) ≤ℤ on-edge) ↔ ((j + k) * p ≤ there)
+    not-short-pin = shift-le (pos (j + k) *ℤ z) on-edge ((j + k) * p) there shift (pin-place o d z p place (j + k)) (point-place o d a ha b hb j k)
+
   -- the pin against the lines of a box
   past-line : (l : ℤ) → inRange l ≡ true → ((pos d *ℤ l) <ℤ z) ↔ (d * (placeOf l + o) < p)
   past-line l hl = shift-lt (pos d *ℤ l) z (d * (placeOf l + o)) p (d * (1000000 + o)) (end-place o d l hl) place

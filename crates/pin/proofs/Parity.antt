@@ -1,20 +1,24 @@
 -- A closed ring of vertices (X v, Y v), in numbers that are not negative, and the parity of its edges' crossings of the ray east of a point (px, py).
--- What holds of one axis holds of the other with X and Y exchanged. Over coordinates: Origin.
+-- What holds of one axis holds of the other with X and Y exchanged. The laws for pins, over coordinates, are in Laws.
 --   crossAt, Odd     edge i crosses the ray strictly east of the point;  an odd number of edges do
 --   Beside           a point of an edge that is not level, at the height py;  xOf, mOf  its x, times its denominator
 --   Met              edge i has different ends, and a point on the level segment from px to qx at the height py, ends included;  Unmet  no edge has
+--   straddlesAt      edge i crosses the level py;  straddles-means  one end lies above it, and one does not
+--   level-even       the number of edges that cross a level is even
 --   east-of          what the test of edge i says
 --   on-east, on-west    an odd point has an edge point east of it, and one west of it or at it
 --   north            a point on no edge is odd by its ray east exactly where it is by its ray north
+--   point-turned     a point on edge i with the axes exchanged;  met-longer  a part of a segment
 --   one-point        an edge that is not level has no second point on a level
---   slide            along a level segment that no edge meets, parity stays;  flip  across one edge it turns
+--   slide, climb     along a level segment, an upright one, that no edge meets, parity stays
+--   flip, flip-up    across one edge it turns;  off-ends  and then neither end of the segment lies on an edge
 --   end-lo, end-hi    an end of an edge that is not past l, not before it
 --   reach-lo, reach-hi, reach-short, reach-past    an edge with a point at or before l, at or past it, before it, past it has an end there
 --   Boxed, boxed     an odd point lies within the ring's box, and not on its east or north line
-use mathlib.Core.Path.{_≡_, sym, _∙_, ap}
+use mathlib.Core.Path.{_≡_, refl, sym, _∙_, ap}
 use mathlib.Core.Logic.{_↔_, _⊎_, inl, inr, ⊎-elim, _≢_}
-use mathlib.Core.Bool.{Bool, true}
-use Prim.Native.Nat.{ℕ, suc, _+_, _-_, _*_, _%_, _≤_, _<_}
+use mathlib.Core.Bool.{Bool, true, false}
+use Prim.Native.Nat.{ℕ, zero, suc, _+_, _-_, _*_, _%_, _≤_, _<_}
 use native.Mathlib.Omega.{arith}
 use native.Mathlib.Nat.{mul-le-mul-left, mul-lt-mul-of-pos-left}
 use native.Mathlib.Decide.{decLt, ℕ-discrete}
@@ -22,19 +26,22 @@ use borrow.Author.Tests.{eq-eqb, ne-eqb}
 use lib.Dec.{ltb}
 use Rattle.plane.specs.TileSet.{one-if}
 use Rattle.plane.specs.Folds.{sumTo}
-use Rattle.plane.proofs.Logic.{both, is-false, iff-join, iff-turn}
+use Rattle.plane.proofs.Logic.{never, both, is-false, lt-means, iff-join, iff-turn, iff-not}
 use Rattle.meet.proofs.Common.{own-line, same-y}
 use Rattle.ring.specs.Edges.{nextOf}
 use Rattle.ring.specs.Enclosed.{eastward}
 use Rattle.ring.proofs.Ray.{East, east-means}
 use Rattle.pin.proofs.Closed.{round, odd-some, odd-turns, sum-mod}
-use Rattle.pin.proofs.Turned.{turned, corner, westward, west-there, opposite}
+use Rattle.pin.proofs.Turned.{passes, turned, corner, westward, west-there, opposite}
 
 abbrev pub crossAt : (X Y : ℕ → ℕ) (from n px py i : ℕ) → Bool
 crossAt X Y from n px py i = eastward (X (from + i)) (Y (from + i)) (X (nextOf from n i)) (Y (nextOf from n i)) px py
 
 abbrev pub Odd : (X Y : ℕ → ℕ) (from n px py : ℕ) → Type 0
 Odd X Y from n px py = sumTo (λ i. one-if (crossAt X Y from n px py i)) n % 2 ≡ 1
+
+abbrev pub straddlesAt : (Y : ℕ → ℕ) (from n py i : ℕ) → Bool
+straddlesAt Y from n py i = passes (ltb py (Y (from + i))) (ltb py (Y (nextOf from n i))) true true
 
 pub record Beside (X Y : ℕ → ℕ) (from n py : ℕ) : Type 0 where
   pub i : ℕ
@@ -63,6 +70,43 @@ pub record Met (X Y : ℕ → ℕ) (from n px qx py i : ℕ) : Type 0 where
 
 abbrev pub Unmet : (X Y : ℕ → ℕ) (from n px qx py : ℕ) → Type 0
 Unmet X Y from n px qx py = (i : ℕ) → i < n → Met X Y from n px qx py i → ⊥
+
+-- ---- a level
+pub level-even : (Y : ℕ → ℕ) (from n py : ℕ) → sumTo (λ i. one-if (straddlesAt Y from n py i)) n % 2 ≡ 0
+unfolding sumTo
+level-even Y from n py =
+    round (λ v. one-if (ltb py (Y v))) from n (λ i. one-if (straddlesAt Y from n py i)) (λ i. 0)
+    (λ i h. go (ltb py (Y (from + i))) (ltb py (Y (nextOf from n i))))
+    ∙ none n
+  where
+    go : (x y : Bool) → (one-if (passes x y true true) + one-if x + one-if y) % 2 ≡ 0 % 2
+    go true true = refl
+    go true false = refl
+    go false true = refl
+    go false false = refl
+
+    none : (n : ℕ) → sumTo (λ i. 0) n % 2 ≡ 0
+    none zero = refl
+    none (suc n) = omega (arith, none n)
+
+pub straddles-means : (Y : ℕ → ℕ) (from n py i : ℕ) → (straddlesAt Y from n py i ≡ true)
+    ↔ (((Y (from + i) ≤ py) × (py < Y (nextOf from n i))) ⊎ ((Y (nextOf from n i) ≤ py) × (py < Y (from + i))))
+straddles-means Y from n py i = go (ltb py (Y (from + i))) (ltb py (Y (nextOf from n i))) (lt-means _ _) (lt-means _ _)
+  where
+    a : ℕ
+    a = Y (from + i)
+
+    b : ℕ
+    b = Y (nextOf from n i)
+
+    not-above : (z : ℕ) → (false ≡ true) ↔ (py < z) → z ≤ py
+    not-above z h = elim (decLt py z) [ yes l ↦ never (h .1 l) | no l ↦ omega arith ]
+
+    go : (x y : Bool) → (x ≡ true) ↔ (py < a) → (y ≡ true) ↔ (py < b) → (passes x y true true ≡ true) ↔ (((a ≤ py) × (py < b)) ⊎ ((b ≤ py) × (py < a)))
+    go true true h k = (λ e. never e, λ e. absurd (⊎-elim (λ q. omega (arith, q .0, h .0 refl)) (λ q. omega (arith, q .0, k .0 refl)) e))
+    go true false h k = (λ e. inr (not-above b k, h .0 refl), λ e. refl)
+    go false true h k = (λ e. inl (not-above a h, k .0 refl), λ e. refl)
+    go false false h k = (λ e. never e, λ e. ⊎-elim (λ q. k .1 (q .1)) (λ q. h .1 (q .1)) e)
 
 module _ (X Y : ℕ → ℕ) (from n px py : ℕ) where
   abbrev EastOf : ℕ → Type 0
@@ -107,6 +151,32 @@ module _ (X Y : ℕ → ℕ) (from n px py : ℕ) where
       (λ i h. turned (X (from + i)) (Y (from + i)) (X (nextOf from n i)) (Y (nextOf from n i)) px py
       (λ q. off i h (record { apart = λ e. q .ne (e .1); j = q .j; k = q .k; some = q .some; level = q .level; past = omega (arith, q .there); short = omega (arith, q .there) }))) in
       (λ o. sym r ∙ o, λ o. r ∙ o)
+
+-- the point itself, seen with the axes exchanged
+pub point-turned : (X Y : ℕ → ℕ) (from n px py i : ℕ) → Met Y X from n py py px i → Met X Y from n px px py i
+point-turned X Y from n px py i m =
+    record {
+      apart = λ e. m .apart (e .1, e .0);
+      j = m .j;
+      k = m .k;
+      some = m .some;
+      level = omega (arith, m .past, m .short);
+      past = omega (arith, m .level);
+      short = omega (arith, m .level);
+    }
+
+-- a part of a segment
+pub met-longer : (X Y : ℕ → ℕ) (from n px qx py ax bx i : ℕ) → px ≤ ax → bx ≤ qx → Met X Y from n ax bx py i → Met X Y from n px qx py i
+met-longer X Y from n px qx py ax bx i l r m =
+    record {
+      apart = m .apart;
+      j = m .j;
+      k = m .k;
+      some = m .some;
+      level = m .level;
+      past = omega (arith, m .past, mul-le-mul-left (m .j + m .k) l);
+      short = omega (arith, m .short, mul-le-mul-left (m .j + m .k) r);
+    }
 
 -- an edge that is not level has one point on a level
 pub one-point : (ax ay bx by py j k l m : ℕ) → ay ≢ by → j * ay + k * by ≡ (j + k) * py → l * ay + m * by ≡ (l + m) * py
@@ -180,6 +250,43 @@ module _ (X Y : ℕ → ℕ) (from n px qx py : ℕ) (le : px ≤ qx) where
     flip others =
         odd-turns (crossAt X Y from n px py) (crossAt X Y from n qx py) a (east-of X Y from n px py a .1 east-here)
         (is-false (crossAt X Y from n qx py a) (λ h. not-there (east-of X Y from n qx py a .0 h))) n low (λ i h ne. same-test i (others i h ne))
+
+    -- neither end of the segment lies on an edge
+    pub off-ends : ((i : ℕ) → i < n → i ≢ a → Met X Y from n px qx py i → ⊥) → Unmet X Y from n px px py × Unmet X Y from n qx qx py
+    off-ends others = (
+      λ i h m. elim (ℕ-discrete i a) [
+        | yes e ↦ here (rw e at m)
+        | no e ↦ others i h e (met-longer X Y from n px qx py px px i (omega arith) le m)
+      ],
+      λ i h m. elim (ℕ-discrete i a) [
+        | yes e ↦ there (rw e at m)
+        | no e ↦ others i h e (met-longer X Y from n px qx py qx qx i le (omega arith) m)
+      ],
+    )
+      where
+        here : Met X Y from n px px py a → ⊥
+        here m = omega (arith, only (m .j) (m .k) (m .level), mul-lt-mul-of-pos-left past (m .some), mul-le-mul-left (j + k) (m .short))
+
+        there : Met X Y from n qx qx py a → ⊥
+        there m = omega (arith, only (m .j) (m .k) (m .level), mul-lt-mul-of-pos-left short (m .some), mul-le-mul-left (j + k) (m .past))
+
+-- ---- along an upright segment
+module _ (X Y : ℕ → ℕ) (from n px py qy : ℕ) (le : py ≤ qy) where
+  pub climb : Unmet Y X from n py qy px → Odd X Y from n px py ↔ Odd X Y from n px qy
+  climb none =
+      let p = north X Y from n px py (λ i h m. none i h (met-longer Y X from n py qy px py py i (omega arith) le (point-turned Y X from n py px i m))) in
+      let q = north X Y from n px qy (λ i h m. none i h (met-longer Y X from n py qy px qy qy i le (omega arith) (point-turned Y X from n qy px i m))) in
+      iff-join p (iff-join (slide Y X from n py qy px le none) (iff-turn q))
+
+  pub flip-up : (a j k : ℕ) → a < n → 0 < j → 0 < k → X (from + a) ≢ X (nextOf from n a)
+      → j * X (from + a) + k * X (nextOf from n a) ≡ (j + k) * px
+      → (j + k) * py < j * Y (from + a) + k * Y (nextOf from n a) → j * Y (from + a) + k * Y (nextOf from n a) < (j + k) * qy
+      → ((i : ℕ) → i < n → i ≢ a → Met Y X from n py qy px i → ⊥) → Odd X Y from n px py ↔ (Odd X Y from n px qy → ⊥)
+  flip-up a j k low hj hk slanted level past short others =
+      let off = off-ends Y X from n py qy px le a j k low hj hk slanted level past short others in
+      let p = north X Y from n px py (λ i h m. off .0 i h (point-turned Y X from n py px i m)) in
+      let q = north X Y from n px qy (λ i h m. off .1 i h (point-turned Y X from n qy px i m)) in
+      iff-join p (iff-join (flip Y X from n py qy px le a j k low hj hk slanted level past short others) (iff-not (iff-turn q)))
 
 -- ---- the ring's box
 next-is : (from n i : ℕ) → i < n → (v : ℕ) × (v < n) × (nextOf from n i ≡ from + v)

@@ -1,29 +1,34 @@
--- The pins of a tile that no edge of a ring has.
+-- Pins and tiles: every pin lies in a tile or on a line; and the pins of a tile that no edge of a ring has.
+--   tile-or-line     a pin lies strictly inside one of the nine tiles, or on a line of the box
 --   same-in-tile     they are enclosed alike
 --   only-middle      where one is enclosed, the tile is B, and the ring's box covers the box
 --   TouchAt, touch-in    an edge touches the tile in the numbers of Parity;  then it has it
 --   At, first-at     a pin inside the tile, in these numbers
 --   middle-wide      a box with a pin strictly inside B has width and height;  centre-in  and then its centre lies there
 use mathlib.Core.Path.{_≡_, ap}
-use Prim.Native.Nat.{ℕ, zero, suc, _+_, _*_, _≤_, _<_}
+use mathlib.Core.Logic.{_↔_, _⊎_, inl, inr}
+use mathlib.Core.Bool.{true}
+use Prim.Native.Nat.{ℕ, zero, suc, _+_, _-_, _*_, _≤_, _<_}
 use native.Mathlib.Omega.{arith}
 use native.Mathlib.Nat.{mul-comm, mul-pos, lt-of-mul-lt-mul-left, le-of-mul-le-mul-left}
 use mathlib.Core.List.{List}
-use lib.IntN.{ℤ}
-use Rattle.plane.specs.Place.{placeOf}
+use native.Mathlib.Decide.{decLt}
+use lib.IntN.{ℤ, pos, _*ℤ_}
+use Rattle.plane.specs.Place.{placeOf, inRange}
 use Rattle.plane.specs.Points.{Lines}
 use Rattle.plane.specs.Ray.{Pin}
 use Rattle.plane.specs.Placed.{LinesInRange, boxOf, Upright}
-use Rattle.plane.specs.Tiles.{columnOf, rowOf}
+use Rattle.plane.specs.Tiles.{Inside, columnOf, rowOf}
 use Rattle.plane.proofs.Place.{place-at-most}
+use Rattle.plane.proofs.Difference.{Diff}
 use Rattle.edge.proofs.Weights.{InCol}
 use Rattle.ring.specs.Edges.{corner, after, RingInRange}
 use Rattle.ring.specs.RingBox.{BoxIs, Covers}
 use Rattle.ring.specs.Enclosed.{Enclosed, centre}
 use Rattle.ring.proofs.Edges.{after-in-range}
 use Rattle.ring.proofs.RingBox.{box-in-range}
-use Rattle.ring.proofs.Enclosed.{centre-in-places}
-use Rattle.pin.specs.Pins.{InTile, EdgeIn}
+use Rattle.ring.proofs.Enclosed.{shift-eq, end-place, centre-in-places}
+use Rattle.pin.specs.Pins.{InTile, OnLine, EdgeIn}
 use Rattle.pin.proofs.Untouched.{Touch, Spans, middle, all-odd}
 use Rattle.pin.proofs.Entered.{entered-has}
 use Rattle.pin.proofs.Origin.{X, Y, View, view, odd-first, odd-second, in-range, in-column}
@@ -35,7 +40,50 @@ module _ (lo hi a b j k m o : ℕ) where
   shrink (suc zero) h = (lt-of-mul-lt-mul-left m (omega arith), lt-of-mul-lt-mul-left m (omega arith))
   shrink (suc (suc c)) h = lt-of-mul-lt-mul-left m (omega arith)
 
+-- ---- one axis: a pin lies strictly inside a range, or on a line
+range-or-line : (o d p : ℕ) (z lo hi : ℤ) → Diff z p (d * (1000000 + o)) → inRange lo ≡ true → inRange hi ≡ true
+    → ((c : ℕ) × (c < 3) × Inside c lo hi d z) ⊎ ((z ≡ pos d *ℤ lo) ⊎ (z ≡ pos d *ℤ hi))
+range-or-line o d p z lo hi place hl hh = go (decLt p u) (decLt u p) (decLt p v) (decLt v p)
+  where
+    u : ℕ
+    u = d * (placeOf lo + o)
+
+    v : ℕ
+    v = d * (placeOf hi + o)
+
+    within : (c : ℕ) → Inside c lo hi d z ↔ InCol c (placeOf lo + o) (placeOf hi + o) d p
+    within c = in-range o d z p place lo hi hl hh c
+
+    on : (l : ℤ) (h : inRange l ≡ true) → p ≡ d * (placeOf l + o) → z ≡ pos d *ℤ l
+    on l h e = shift-eq z (pos d *ℤ l) p (d * (placeOf l + o)) (d * (1000000 + o)) place (end-place o d l h) .1 e
+
+    go : Dec (p < u) → Dec (u < p) → Dec (p < v) → Dec (v < p) → ((c : ℕ) × (c < 3) × Inside c lo hi d z) ⊎ ((z ≡ pos d *ℤ lo) ⊎ (z ≡ pos d *ℤ hi))
+    go (yes a) b c e = inl (0, omega arith, within 0 .1 a)
+    go (no a) (no b) c e = inr (inl (on lo hl (omega arith)))
+    go (no a) (yes b) (yes c) e = inl (1, omega arith, within 1 .1 (b, c))
+    go (no a) (yes b) (no c) (yes e) = inl (2, omega arith, within 2 .1 e)
+    go (no a) (yes b) (no c) (no e) = inr (inr (on hi hh (omega arith)))
+
+-- the tile in column c and row r
+tile-of : (c r : ℕ) → c < 3 → r < 3 → (t : ℕ) × (t < 9) × (columnOf t ≡ c) × (rowOf t ≡ r)
+tile-of c r hc hr = (3 * (2 - r) + c, omega arith, omega arith, omega arith)
+
 module _ (L : Lines) (l : LinesInRange L) where
+  pub tile-or-line : (P : Pin) → ((t : ℕ) × (t < 9) × InTile L P t) ⊎ OnLine L P
+  tile-or-line P =
+      let v = view P P in
+      go (range-or-line (v .o) (P .n) (v .px) (P .x) (L .west) (L .east) (v .first .x) (l .west) (l .east))
+      (range-or-line (v .o) (P .n) (v .py) (P .y) (L .south) (L .north) (v .first .y) (l .south) (l .north))
+    where
+      go : ((c : ℕ) × (c < 3) × Inside c (L .west) (L .east) (P .n) (P .x)) ⊎ ((P .x ≡ pos (P .n) *ℤ L .west) ⊎ (P .x ≡ pos (P .n) *ℤ L .east))
+          → ((r : ℕ) × (r < 3) × Inside r (L .south) (L .north) (P .n) (P .y)) ⊎ ((P .y ≡ pos (P .n) *ℤ L .south) ⊎ (P .y ≡ pos (P .n) *ℤ L .north))
+          → ((t : ℕ) × (t < 9) × InTile L P t) ⊎ OnLine L P
+      go (inr x) y = inr (inl x)
+      go (inl x) (inr y) = inr (inr y)
+      go (inl x) (inl y) =
+          let t = tile-of (x .0) (y .0) (x .1) (y .1) in
+          inl (t .0, t .1, (rw (t .2) (x .2), rw (t .3) (y .2)))
+
   -- ---- the middle tile
   pub middle-wide : (P : Pin) → InTile L P 4 → (placeOf (L .west) < placeOf (L .east)) × (placeOf (L .south) < placeOf (L .north))
   middle-wide P i =

@@ -5,9 +5,10 @@
 --   corner         whether a vertex lies strictly north-east of the point
 --   turned         where the point does not lie on the edge, east and north count alike, but for ends that lie north-east
 --   westward       the edge crosses the point's level west of it, or at it;  West  at such a point;  west-there  where the test holds there is one
+--   west-means     it does where it crosses the level and not east of the point
 --   opposite       east and west count alike, but for ends that lie above
 use mathlib.Core.Path.{_≡_, refl, sym, _∙_, ap}
-use mathlib.Core.Logic.{_≢_}
+use mathlib.Core.Logic.{_↔_, _≢_}
 use mathlib.Core.Bool.{Bool, true, false, not, _&&_, cond}
 use Prim.Native.Nat.{ℕ, _+_, _-_, _*_, _%_, _≤_, _<_}
 use native.Mathlib.Omega.{arith}
@@ -217,3 +218,15 @@ west-there ax ay bx by px py h = go (ltb py ay) refl (ltb py by) refl h
         let le : G ≤ F = ltb-false F G (not-true (ltb F G) h) in
         let w = up-west bx by ax ay px py (ltb-false py by ey) (ltb-true py ay ex) (omega arith) in
         record { ne = λ e. w .ne (sym e); j = w .k; k = w .j; some = omega (arith, w .some); level = omega (arith, w .level); before = omega (arith, w .before) }
+
+-- the edge crosses the level, and not east of p
+pub west-means : (ax ay bx by px py : ℕ) → (westward ax ay bx by px py ≡ true) ↔ ((passes (ltb py ay) (ltb py by) true true ≡ true) × (eastward ax ay bx by px py ≡ false))
+west-means ax ay bx by px py = rw (east-form ax ay bx by px py) (go (ltb py ay) (ltb py by) (L ax ay bx by px py) (R ax ay bx by px py))
+  where
+    go : (x y l r : Bool) → (passes x y (not l) (not r) ≡ true) ↔ ((passes x y true true ≡ true) × (passes x y l r ≡ false))
+    go false false l r = (λ h. never h, λ h. never (h .0))
+    go true true l r = (λ h. never h, λ h. never (h .0))
+    go false true true r = (λ h. never h, λ h. never (sym (h .1)))
+    go false true false r = (λ h. (refl, refl), λ h. refl)
+    go true false l true = (λ h. never h, λ h. never (sym (h .1)))
+    go true false l false = (λ h. (refl, refl), λ h. refl)

@@ -1,2 +1,3 @@
 pub mod Pins
+pub mod Segments
 pub mod Reaches

@@ -1,2 +1,1 @@
-// What a ring encloses: how that changes from point to point, and which tile of a box a pin in it lies in; and that a region which lies round a box
-// reaches beyond it. There is no code here.
+// Every enclosed point is accounted for: pins, their rays and their tiles; and a region that lies round a box reaches beyond it. There is no code here.
