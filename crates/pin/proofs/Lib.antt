@@ -7,7 +7,9 @@ pub mod Origin
 pub mod Laws
 pub mod TileLaws
 pub mod Pins
+pub mod Covering
 pub mod Alone
 pub mod Rim
 pub mod Sides
 pub mod Reaches
+pub mod Examples

@@ -1,3 +1,4 @@
 pub mod Pins
 pub mod Segments
+pub mod Covering
 pub mod Reaches
