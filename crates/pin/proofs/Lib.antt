@@ -8,6 +8,7 @@ pub mod Laws
 pub mod TileLaws
 pub mod Pins
 pub mod Covering
+pub mod West
 pub mod Alone
 pub mod Rim
 pub mod Sides

@@ -1,4 +1,5 @@
 pub mod Pins
 pub mod Segments
 pub mod Covering
+pub mod West
 pub mod Reaches
