@@ -1,4 +1,5 @@
 pub mod Laws
+pub mod Pins
 pub mod Refusals
 pub mod Cells
 pub mod Directions

@@ -3,8 +3,9 @@
 --   InTile L P t        the pin P lies strictly inside tile t of the box with the lines L: on a line it lies in no tile
 --   OnLine L P          the pin lies on one of the four lines. Every pin lies in a tile or on a line: proofs/TileLaws, `tile-or-line`
 --   EdgeIn L xs from n t    some edge of the ring has tile t
---   AccountedFor L R    each pin that a ring of the region R encloses, strictly inside a tile of the box, lies in a tile that R has. That it holds:
---                       proofs/Pins, `accounted-for`
+--   Encloses R r P      ring r of the region R encloses the pin P
+--   AccountedFor L R    what the request asks: each pin that a ring of the region R encloses, strictly inside a tile of the box, lies in a tile that
+--                       R has. That it holds: proofs/Pins, `accounted-for`; as a bit of the pair answer: pair's proofs/Pins, `pin-answered`
 use mathlib.Core.Path.{_≡_}
 use mathlib.Core.Logic.{_⊎_}
 use mathlib.Core.List.{List}
@@ -30,7 +31,8 @@ OnLine L P =
 abbrev pub EdgeIn : Lines → List ℤ → (from n t : ℕ) → Type 0
 EdgeIn L xs from n t = (k : ℕ) × (k < n) × HasTile L (corner xs from k) (after xs from n k) t
 
+abbrev pub Encloses : Region → ℕ → Pin → Type 0
+Encloses R r P = Enclosed P (R .coordinates) (startOf (R .ends) r) (sizeOf (R .ends) r)
+
 abbrev pub AccountedFor : Lines → Region → Type 0
-AccountedFor L R =
-    (P : Pin) (r t : ℕ) → r < length (R .ends) → t < 9 → Enclosed P (R .coordinates) (startOf (R .ends) r) (sizeOf (R .ends) r) → InTile L P t
-    → RegionHas L R t
+AccountedFor L R = (P : Pin) (r t : ℕ) → r < length (R .ends) → t < 9 → Encloses R r P → InTile L P t → RegionHas L R t
