@@ -1,7 +1,7 @@
 -- Sums round a ring, by their parity. It only carries the proofs of Parity.
 --   sum-mod      terms of equal parity have sums of equal parity
 --   round        what is counted at the vertices does not count: each vertex begins one edge and ends one
---   odd-some     of an odd number that pass a test, there is one
+--   odd-some     of an odd number that pass a test, there is one;  odd-there  and one of an odd number that have a property
 --   odd-turns    where two tests differ in one place, one count is odd exactly where the other is not
 use mathlib.Core.Path.{_≡_, refl, sym, _∙_, ap}
 use mathlib.Core.Logic.{_↔_, _≢_}
@@ -11,6 +11,7 @@ use native.Mathlib.Omega.{arith}
 use native.Mathlib.Decide.{ℕ-discrete}
 use Rattle.plane.specs.TileSet.{one-if}
 use Rattle.plane.specs.Folds.{sumTo}
+use Rattle.plane.specs.Counting.{Many, none, one-more, no-more}
 use Rattle.ring.specs.Edges.{nextOf}
 use Rattle.ring.proofs.Edges.{cycle}
 
@@ -40,6 +41,11 @@ odd-some f (suc n) h = go (f n) refl (odd-some f n)
     go : (b : Bool) → f n ≡ b → (sumTo (λ i. one-if (f i)) n % 2 ≡ 1 → (i : ℕ) × (i < n) × (f i ≡ true)) → (i : ℕ) × (i < suc n) × (f i ≡ true)
     go true e ih = (n, omega arith, e)
     go false e ih = let x = ih (omega (arith, rw e at h)) in (x .0, omega (arith, x .1), x .2)
+
+pub odd-there : (P : ℕ → Type 0) {n m : ℕ} → Many P n m → m % 2 ≡ 1 → (k : ℕ) × (k < n) × P k
+odd-there P none o = absurd (omega (arith, o))
+odd-there P (one-more {n = n} a p) o = (n, omega arith, p)
+odd-there P (no-more a q) o = let x = odd-there P a o in (x .0, omega (arith, x .1), x .2)
 
 module _ (f g : ℕ → Bool) (a : ℕ) (here : f a ≡ true) (there : g a ≡ false) where
   differ : (n : ℕ) → a < n → ((i : ℕ) → i < n → i ≢ a → f i ≡ g i)

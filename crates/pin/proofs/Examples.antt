@@ -42,7 +42,7 @@ notched =
 abbrev pub triangle : List ℤ
 triangle = pos 0 ∷ pos 0 ∷ pos 0 ∷ pos 10 ∷ pos 10 ∷ pos 5 ∷ []
 
-abbrev square : List ℤ
+abbrev pub square : List ℤ
 square = pos 0 ∷ pos 0 ∷ pos 0 ∷ pos 10 ∷ pos 10 ∷ pos 10 ∷ pos 10 ∷ pos 0 ∷ []
 
 abbrev reaching : Lines

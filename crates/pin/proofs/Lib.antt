@@ -14,3 +14,4 @@ pub mod Rim
 pub mod Sides
 pub mod Reaches
 pub mod Examples
+pub mod Sharp

@@ -3,6 +3,7 @@
 --   WestOf             edge i crosses the ray strictly west of a point, in the numbers of Parity
 --   west-enclosed      in a tile that no edge has, a pin enclosed by the ray west is enclosed
 --   west-accounted     a pin enclosed by the ray west, strictly inside a tile: the ring has the tile
+--   west-beyond        such a pin lies strictly east of the ring's west line. A pin on that line may be enclosed by the ray east: proofs/Sharp
 use mathlib.Core.Path.{_≡_, refl, _∙_, ap, subst}
 use mathlib.Core.Logic.{_↔_, _⊎_, inl, _≢_, ⊎-elim}
 use mathlib.Core.Bool.{Bool, true, false}
@@ -22,20 +23,23 @@ use Rattle.plane.specs.Tiles.{columnOf, rowOf}
 use Rattle.plane.specs.Folds.{sumTo}
 use Rattle.plane.specs.TileSet.{one-if}
 use Rattle.plane.proofs.Logic.{clash, is-false, iff-join, iff-and, iff-or}
+use Rattle.plane.proofs.Place.{place-at-most}
 use Rattle.plane.proofs.Counting.{many-counted, many-only}
 use Rattle.ring.specs.Edges.{nextOf, corner, after, RingInRange}
 use Rattle.ring.specs.Enclosed.{Enclosed}
+use Rattle.ring.specs.RingBox.{BoxIs}
 use Rattle.ring.specs.RingTiles.{RingHas, ringHas}
 use Rattle.ring.proofs.Edges.{after-in-range}
 use Rattle.ring.proofs.Ray.{East}
+use Rattle.ring.proofs.RingBox.{box-in-range}
 use Rattle.ring.proofs.RingTiles.{ring-means}
-use Rattle.ring.proofs.Enclosed.{end-low, end-high, at-pin, From}
+use Rattle.ring.proofs.Enclosed.{shift-lt, end-place, end-low, end-high, at-pin, From}
 use Rattle.pin.specs.Pins.{InTile}
 use Rattle.pin.specs.Covering.{EdgeIn}
 use Rattle.pin.specs.West.{CrossesWest, EnclosedWest}
-use Rattle.pin.proofs.Closed.{round}
+use Rattle.pin.proofs.Closed.{round, odd-there}
 use Rattle.pin.proofs.Turned.{westward, west-there, west-means, opposite}
-use Rattle.pin.proofs.Parity.{crossAt, Odd, Unmet, straddles-means, east-of, one-point}
+use Rattle.pin.proofs.Parity.{crossAt, Odd, Unmet, straddles-means, east-of, one-point, reach-short}
 use Rattle.pin.proofs.Untouched.{off}
 use Rattle.pin.proofs.Origin.{X, Y, view, short-pin}
 use Rattle.pin.proofs.Laws.{odd-first}
@@ -160,3 +164,16 @@ module _ (L : Lines) (l : LinesInRange L) (up : Upright (boxOf L)) (xs : List �
       go false h =
           ring-accounted L l up xs from n r some P t ht
           (west-enclosed (λ x. clash (ringHas (boxOf L) xs from n t) (ring-means L l xs from n r t some up ht .1 (inl x)) h) i e) i
+
+-- ---- the ring's west line
+module _ (xs : List ℤ) (from n : ℕ) (r : RingInRange xs from n) (P : Pin) where
+  pub west-beyond : EnclosedWest P xs from n → (K : Lines) → BoxIs xs from n K → (pos (P .n) *ℤ K .west) <ℤ P .x
+  west-beyond e K is =
+      let v = view P P in
+      let k = box-in-range xs from n r K is in
+      let x = odd-there (λ k. CrossesWest P (corner xs from k) (after xs from n k)) (e .counted) (e .odd) in
+      let w = west-from xs from n r (v .o) 1 (omega arith) P (v .px) (v .py) (v .first) (x .0) (x .1) .1 (x .2) in
+      let y = reach-short (X xs (v .o) (1 * P .n)) from n (x .0) (w .j) (w .k) (1 * v .px) (x .1) (w .some) (w .before) in
+      let least : placeOf (K .west) ≤ placeOf ((corner xs from (y .0)) .x) = place-at-most _ _ (k .west) (r .at (y .0) (y .1) .x) .0 (is .west .none-below (y .0) (y .1)) in
+      shift-lt (pos (P .n) *ℤ K .west) (P .x) (P .n * (placeOf (K .west) + v .o)) (v .px) (P .n * (1000000 + v .o)) (end-place (v .o) (P .n) (K .west) (k .west)) (v .first .x) .1
+      (omega (arith, y .2, mul-le-mul-left (P .n) least))
