@@ -5,7 +5,8 @@
 --   same-along-level, same-along-upright      where no edge meets the segment between two pins, they are enclosed alike
 --   turns-across-level, turns-across-upright  where one edge passes between them and no other meets the segment, one is enclosed and one is not
 --   within-box            an enclosed pin lies within the ring's box;  outside-even  outside it the number of crossings is even
--- For a tile that no edge has: TileLaws.
+-- For a tile that no edge has: TileLaws. What only carries proofs:
+--   met-level             an edge that meets the segment, in the numbers of Origin, meets it
 use mathlib.Core.Path.{_≡_, sym, _∙_, ap, subst}
 use mathlib.Core.Logic.{_↔_, _⊎_, _≢_}
 use mathlib.Core.List.{List}
@@ -121,7 +122,7 @@ module _ (xs : List ℤ) (from n : ℕ) (r : RingInRange xs from n) where
     order-y = pins-le (v .o) (P .n) (Q .n) (v .py) (v .qy) (P .y) (Q .y) (v .first .y) (v .second .y)
 
     -- an edge that meets the segment in these numbers meets it
-    met-level : (i : ℕ) → i < n → Met (XX xs from n r P Q v) (YY xs from n r P Q v) from n (Q .n * v .px) (P .n * v .qx) (Q .n * v .py) i → Meets P Q (corner xs from i) (after xs from n i)
+    pub met-level : (i : ℕ) → i < n → Met (XX xs from n r P Q v) (YY xs from n r P Q v) from n (Q .n * v .px) (P .n * v .qx) (Q .n * v .py) i → Meets P Q (corner xs from i) (after xs from n i)
     met-level i h m =
         meets (v .o) P Q (v .px) (v .py) (v .qx) (v .qy) (v .first) (v .second) (corner xs from i) (after xs from n i) (r .at i h) (after-in-range xs from n i r h)
         (m .j) (m .k) (m .some) (m .level) (m .past) (m .short)

@@ -1,10 +1,11 @@
 -- The ray to the west. A pin on no edge is enclosed by the one ray exactly where it is by the other, because the edges that cross its level are even in
 -- number; and a pin strictly inside a tile that no edge has lies on no edge. So the theorem on enclosed pins holds by the west rule too.
 --   WestOf             edge i crosses the ray strictly west of a point, in the numbers of Parity
+--   west-same          a pin on no edge is enclosed by the ray west exactly where it is enclosed
 --   west-enclosed      in a tile that no edge has, a pin enclosed by the ray west is enclosed
 --   west-accounted     a pin enclosed by the ray west, strictly inside a tile: the ring has the tile
---   west-beyond        such a pin lies strictly east of the ring's west line. A pin on that line may be enclosed by the ray east: proofs/Sharp
-use mathlib.Core.Path.{_≡_, refl, _∙_, ap, subst}
+--   west-beyond        a pin enclosed by the ray west lies strictly east of the ring's west line. A pin on that line may be enclosed: proofs/Sharp
+use mathlib.Core.Path.{_≡_, refl, sym, _∙_, ap, subst}
 use mathlib.Core.Logic.{_↔_, _⊎_, inl, _≢_, ⊎-elim}
 use mathlib.Core.Bool.{Bool, true, false}
 use mathlib.Core.List.{List}
@@ -35,14 +36,15 @@ use Rattle.ring.proofs.RingBox.{box-in-range}
 use Rattle.ring.proofs.RingTiles.{ring-means}
 use Rattle.ring.proofs.Enclosed.{shift-lt, end-place, end-low, end-high, at-pin, From}
 use Rattle.pin.specs.Pins.{InTile}
+use Rattle.pin.specs.Segments.{Meets}
 use Rattle.pin.specs.Covering.{EdgeIn}
 use Rattle.pin.specs.West.{CrossesWest, EnclosedWest}
 use Rattle.pin.proofs.Closed.{round, odd-there}
 use Rattle.pin.proofs.Turned.{westward, west-there, west-means, opposite}
 use Rattle.pin.proofs.Parity.{crossAt, Odd, Unmet, straddles-means, east-of, one-point, reach-short}
 use Rattle.pin.proofs.Untouched.{off}
-use Rattle.pin.proofs.Origin.{X, Y, view, short-pin}
-use Rattle.pin.proofs.Laws.{odd-first}
+use Rattle.pin.proofs.Origin.{X, Y, View, view, short-pin}
+use Rattle.pin.proofs.Laws.{XX, YY, odd-first, met-level}
 use Rattle.pin.proofs.TileLaws.{touch-in, first-at}
 use Rattle.pin.proofs.Pins.{ring-accounted}
 
@@ -85,10 +87,11 @@ module _ (X Y : ℕ → ℕ) (from n px py : ℕ) where
         λ w. m .1 (straddles-means Y from n py i .1 (w .heights), is-false (crossAt X Y from n px py i) (λ c. not-both i w (east-of X Y from n px py i .0 c))),
       )
 
-  west-odd : sumTo (λ i. one-if (westAt i)) n % 2 ≡ 1 → Odd X Y from n px py
-  west-odd o =
-      round (λ v. one-if (ltb py (Y v))) from n (λ i. one-if (crossAt X Y from n px py i)) (λ i. one-if (westAt i))
-      (λ i h. opposite (X (from + i)) (Y (from + i)) (X (nextOf from n i)) (Y (nextOf from n i)) px py) ∙ o
+  west-odd : Odd X Y from n px py ↔ (sumTo (λ i. one-if (westAt i)) n % 2 ≡ 1)
+  west-odd =
+      let e = round (λ v. one-if (ltb py (Y v))) from n (λ i. one-if (crossAt X Y from n px py i)) (λ i. one-if (westAt i))
+      (λ i h. opposite (X (from + i)) (Y (from + i)) (X (nextOf from n i)) (Y (nextOf from n i)) px py) in
+      (λ o. sym e ∙ o, λ o. e ∙ o)
 
 -- ---- a pin, all numbers f times more
 module _ (xs : List ℤ) (from n : ℕ) (r : RingInRange xs from n) (o f : ℕ) (hf : 0 < f) (P : Pin) (px py : ℕ) (at : From o P px py) where
@@ -139,6 +142,30 @@ module _ (xs : List ℤ) (from n : ℕ) (r : RingInRange xs from n) (o f : ℕ) 
             },
       )
 
+-- ---- a pin on no edge
+module _ (xs : List ℤ) (from n : ℕ) (r : RingInRange xs from n) (P : Pin) where
+  abbrev Free : View P P → Type 0
+  Free v = Unmet (XX xs from n r P P v) (YY xs from n r P P v) from n (P .n * v .px) (P .n * v .px) (P .n * v .py)
+
+  same-free : (v : View P P) → Free v → EnclosedWest P xs from n ↔ Enclosed P xs from n
+  same-free v free =
+      let test = westAt (XX xs from n r P P v) (YY xs from n r P P v) from n (P .n * v .px) (P .n * v .py) in
+      let counted = many-counted (λ k. CrossesWest P (corner xs from k) (after xs from n k)) test n (λ k h.
+      iff-join (west-of (XX xs from n r P P v) (YY xs from n r P P v) from n (P .n * v .px) (P .n * v .py) free k h)
+      (west-from xs from n r (v .o) (P .n) (P .some) P (v .px) (v .py) (v .first) k h)) in
+      let odd = west-odd (XX xs from n r P P v) (YY xs from n r P P v) from n (P .n * v .px) (P .n * v .py) in (
+        λ e.
+            let same = many-only (λ k. CrossesWest P (corner xs from k) (after xs from n k)) counted (e .counted) in
+            odd-first xs from n r P P v .1 (odd .1 (ap (λ c. c % 2) same ∙ e .odd)),
+        λ e. record { crossing = sumTo (λ k. one-if (test k)) n; counted = counted; odd = odd .0 (odd-first xs from n r P P v .0 e) },
+      )
+
+  pub west-same : ((i : ℕ) → i < n → Meets P P (corner xs from i) (after xs from n i) → ⊥) → EnclosedWest P xs from n ↔ Enclosed P xs from n
+  west-same none =
+      let w = view P P in
+      let v : View P P = record { o = w .o; px = w .px; py = w .py; qx = w .px; qy = w .py; first = w .first; second = w .first } in
+      same-free v (λ i h m. none i h (met-level xs from n r P P v i h m))
+
 -- ---- a tile
 module _ (L : Lines) (l : LinesInRange L) (up : Upright (boxOf L)) (xs : List ℤ) (from n : ℕ) (r : RingInRange xs from n) (P : Pin) (t : ℕ) where
   pub west-enclosed : (EdgeIn L xs from n t → ⊥) → InTile L P t → EnclosedWest P xs from n → Enclosed P xs from n
@@ -146,15 +173,10 @@ module _ (L : Lines) (l : LinesInRange L) (up : Upright (boxOf L)) (xs : List �
       let v = view P P in
       let m = P .n * P .n in
       let at = first-at L l up xs from n r P P v t i in
-      let free = off (X xs (v .o) m) (Y xs (v .o) m) from n (columnOf t) (m * (placeOf (L .west) + v .o)) (m * (placeOf (L .east) + v .o))
+      same-free xs from n r P v
+      (off (X xs (v .o) m) (Y xs (v .o) m) from n (columnOf t) (m * (placeOf (L .west) + v .o)) (m * (placeOf (L .east) + v .o))
       (rowOf t) (m * (placeOf (L .south) + v .o)) (m * (placeOf (L .north) + v .o)) (λ p. none (touch-in L l up xs from n r (v .o) m t p))
-      (P .n * v .px) (P .n * v .py) (at .0) (at .1) in
-      let test = westAt (X xs (v .o) m) (Y xs (v .o) m) from n (P .n * v .px) (P .n * v .py) in
-      let counted = many-counted (λ k. CrossesWest P (corner xs from k) (after xs from n k)) test n (λ k h.
-      iff-join (west-of (X xs (v .o) m) (Y xs (v .o) m) from n (P .n * v .px) (P .n * v .py) free k h)
-      (west-from xs from n r (v .o) (P .n) (P .some) P (v .px) (v .py) (v .first) k h)) in
-      let same = many-only (λ k. CrossesWest P (corner xs from k) (after xs from n k)) counted (e .counted) in
-      odd-first xs from n r P P v .1 (west-odd (X xs (v .o) m) (Y xs (v .o) m) from n (P .n * v .px) (P .n * v .py) (ap (λ c. c % 2) same ∙ e .odd))
+      (P .n * v .px) (P .n * v .py) (at .0) (at .1)) .0 e
 
   pub west-accounted : 0 < n → t < 9 → EnclosedWest P xs from n → InTile L P t → RingHas L xs from n t
   west-accounted some ht e i = go (ringHas (boxOf L) xs from n t) refl
