@@ -1,5 +1,5 @@
--- The covering condition of the third clause (SCOPE 4.4): the polygon's own box covers the box. A polygon that encloses all of B
--- has such a box anyway, and one that encloses a part of B only has an edge there; so with the condition dropped a region has the same tiles of a box
+-- SCOPE 4.10: the covering condition in the second part of 4.4, that the polygon's own box covers the box. A polygon that encloses all of B
+-- has such a box anyway, and one that encloses only a part of B has an edge there; so with the condition dropped a region has the same tiles of a box
 -- with width and height: proofs/Covering, `region-dropped`.
 --   RingHasCentre L xs from n t   the clauses for one ring with the covering condition dropped
 --   RegionHasCentre L R t         the same for a region

@@ -1,4 +1,4 @@
--- SCOPE 4.1, 4.5: a pin in a parcel, and the tile that it lies in. A pin is a point with fractions as coordinates (plane's Ray); a ring
+-- SCOPE 4.9: a pin in a parcel, and the tile that it lies in. A pin is a point with fractions as coordinates (plane's Ray); a ring
 -- encloses it where an odd number of its edges cross the ray east of it (ring's Enclosed), and the centre of a box is one such pin.
 --   InTile L P t        the pin P lies strictly inside tile t of the box with the lines L: on a line it lies in no tile
 --   OnLine L P          the pin lies on one of the four lines. Every pin lies in a tile or on a line: proofs/TileLaws, `tile-or-line`

@@ -1,4 +1,4 @@
--- What the laws of parity speak of: a level and the edges that cross it, a segment between two pins and the edges that meet it, a ring's box.
+-- No rule stands here, but what laws on 4.5 speak of: a level and the edges that cross it, a segment between two pins and the edges that meet it, a ring's box.
 -- The laws: proofs/Laws.
 --   SamePoint P Q         the pins are one point, with two denominators
 --   CrossesLevel P A B    the edge from A to B crosses the level of the pin P: one end lies above it and one does not
