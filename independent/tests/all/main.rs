@@ -10,6 +10,7 @@ mod foreign;
 mod lists;
 mod matrices;
 mod outlines;
+mod pins;
 mod properties;
 mod refusals;
 mod reports;
