@@ -35,9 +35,8 @@ use Rattle.ring.proofs.Ray.{East}
 use Rattle.ring.proofs.RingBox.{box-in-range}
 use Rattle.ring.proofs.RingTiles.{ring-means}
 use Rattle.ring.proofs.Enclosed.{shift-lt, end-place, end-low, end-high, at-pin, From}
-use Rattle.pin.specs.Pins.{InTile}
+use Rattle.pin.specs.Pins.{InTile, EdgeIn}
 use Rattle.pin.specs.Segments.{Meets}
-use Rattle.pin.specs.Covering.{EdgeIn}
 use Rattle.pin.specs.West.{CrossesWest, EnclosedWest}
 use Rattle.pin.proofs.Closed.{round, odd-there}
 use Rattle.pin.proofs.Turned.{westward, west-there, west-means, opposite}
