@@ -12,7 +12,7 @@ use mathlib.Core.Logic.{_↔_, _⊎_, _≢_}
 use mathlib.Core.List.{List}
 use Prim.Native.Nat.{ℕ, _+_, _-_, _*_, _%_, _≤_, _<_}
 use native.Mathlib.Omega.{arith}
-use native.Mathlib.Nat.{mul-comm, mul-le-mul-left, mul-lt-mul-of-pos-left, lt-of-mul-lt-mul-left, le-of-mul-le-mul-left, eq-of-mul-eq-mul-left}
+use native.Mathlib.Nat.{mul-le-mul-left, mul-lt-mul-of-pos-left, lt-of-mul-lt-mul-left, le-of-mul-le-mul-left, eq-of-mul-eq-mul-left}
 use lib.IntN.{ℤ, pos, _*ℤ_}
 use lib.Signed.{_<ℤ_, _≤ℤ_}
 use Rattle.plane.specs.Place.{placeOf}
@@ -31,8 +31,8 @@ use Rattle.ring.proofs.Edges.{after-in-range}
 use Rattle.ring.proofs.RingBox.{box-in-range}
 use Rattle.ring.proofs.Enclosed.{shift-le, shift-eq, pin-place, end-low, end-high, at-pin, past-pin, From}
 use Rattle.pin.specs.Segments.{SamePoint, CrossesLevel, EastOf, Meets, Passes, turnedPin, turnedPoint, WithinBox}
-use Rattle.pin.proofs.Parity.{Odd, straddlesAt, straddles-means, level-even, Met, slide, climb, flip, flip-up, boxed}
-use Rattle.pin.proofs.Origin.{X, Y, View, view, XX, YY, odd-first, odd-second, short-pin, not-past-pin, not-short-pin}
+use Rattle.pin.proofs.Parity.{straddlesAt, straddles-means, level-even, Met, slide, climb, flip, flip-up, boxed}
+use Rattle.pin.proofs.Origin.{Y, View, view, XX, YY, odd-first, odd-second, short-pin, not-past-pin, not-short-pin}
 
 -- ---- two pins with the denominators d and f, in one axis
 module _ (o d f p q : ℕ) (z w : ℤ) (hz : Diff z p (d * (1000000 + o))) (hw : Diff w q (f * (1000000 + o))) where

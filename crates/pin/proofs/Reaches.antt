@@ -10,7 +10,6 @@ use native.Mathlib.Omega.{arith}
 use native.Mathlib.Nat.{zero-add}
 use borrow.Author.Tests.{lt-ltb, le-ltb, le-leb, lt-leb}
 use lib.ListN.{length}
-use lib.IntN.{ℤ}
 use lib.Signed.{_<ℤ_}
 use Rattle.plane.specs.Place.{placeOf}
 use Rattle.plane.specs.Points.{Lines}

@@ -42,8 +42,8 @@ use Rattle.pin.proofs.Closed.{round, odd-there}
 use Rattle.pin.proofs.Turned.{westward, west-there, west-means, opposite}
 use Rattle.pin.proofs.Parity.{crossAt, Odd, Unmet, straddles-means, east-of, one-point, reach-short}
 use Rattle.pin.proofs.Untouched.{off}
-use Rattle.pin.proofs.Origin.{X, Y, View, view, short-pin}
-use Rattle.pin.proofs.Laws.{XX, YY, odd-first, met-level}
+use Rattle.pin.proofs.Origin.{X, Y, View, view, XX, YY, odd-first, short-pin}
+use Rattle.pin.proofs.Laws.{met-level}
 use Rattle.pin.proofs.TileLaws.{touch-in, first-at}
 use Rattle.pin.proofs.Pins.{ring-accounted}
 
