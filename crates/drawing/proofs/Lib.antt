@@ -1,2 +1,3 @@
 pub mod Stays
 pub mod Marks
+pub mod Drawing
