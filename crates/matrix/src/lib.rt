@@ -51,7 +51,7 @@ pub fn grid_of(a: Box, b: Box) -> GridLines
 }
 
 // The cell in row i from the north and column j from the west.
-fn cell_at(g: GridLines, i: usize, j: usize) -> Box
+pub fn cell_at(g: GridLines, i: usize, j: usize) -> Box
     requires { ⌜ (i < g .rows) × (g .rows ≤ 3) × (j < 3) ⌝ }
     ensures { λ c. ⌜ c ≡ cellIn g i j ⌝ }
 {
@@ -101,7 +101,7 @@ fn holds_region(a: Box, b: Box, relation: u16, cell: Box) -> bool
 }
 
 // 1 for the first region, plus 2 for the second.
-fn value_of(first: bool, second: bool) -> u8
+pub fn value_of(first: bool, second: bool) -> u8
     ensures { λ v. ⌜ v ≡ one-if first + 2 * one-if second ⌝ }
 {
     FIRST * one_if(first) as u8 + SECOND * one_if(second) as u8

@@ -173,7 +173,7 @@ fn edges_seen(b: Box, xs: &[i32], from: usize, n: usize) -> Seen
     s
 }
 
-fn covers_box(a: Box, b: Box) -> bool
+pub fn covers_box(a: Box, b: Box) -> bool
     ensures { λ r. ⌜ r ≡ covers a b ⌝ }
 {
     if b.west < a.west {
