@@ -1,2 +1,3 @@
 pub mod Middle
 pub mod Wider
+pub mod Narrow
