@@ -1,3 +1,4 @@
 pub mod Middle
 pub mod Wider
 pub mod Narrow
+pub mod Pieces
