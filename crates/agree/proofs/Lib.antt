@@ -2,3 +2,4 @@ pub mod Middle
 pub mod Wider
 pub mod Narrow
 pub mod Pieces
+pub mod Cells
