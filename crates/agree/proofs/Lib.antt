@@ -3,3 +3,4 @@ pub mod Wider
 pub mod Narrow
 pub mod Pieces
 pub mod Cells
+pub mod Agree
