@@ -2,13 +2,14 @@
 --   first-agrees, second-agrees    a cell is marked for a region exactly where it holds it, as tests
 --   value-agrees       so each cell has the same value in both;  cells-agree  and the nine are the same
 --   same-matrix        rows, columns and cells of the drawn answer are those of the pair answer
+--   same-answer        and so are number, region and ring, and for refused pairs too: all six fields, for any two regions
 use mathlib.Core.Path.{_≡_, refl, sym, _∙_, ap}
 use mathlib.Core.Logic.{_↔_}
 use mathlib.Core.Bool.{Bool, true, false, _&&_}
 use mathlib.Core.List.{List, []}
 use Prim.Native.Nat.{ℕ, _+_, _*_, _/_, _%_, _≤_, _<_}
 use native.Mathlib.Omega.{arith}
-use borrow.Author.Tests.{ltb-true}
+use borrow.Author.Tests.{ltb-true, ne-eqb}
 use lib.Dec.{ltb}
 use lib.ListN.{getD}
 use lib.IntN.{ℤ}
@@ -39,13 +40,17 @@ use Rattle.matrix.proofs.Cells.{cell-there, cell-same}
 use Rattle.matrix.proofs.Holding.{holds-means, holds-second-means}
 use Rattle.matrix.proofs.Matrix.{value-at}
 use Rattle.matrix.proofs.Meaning.{holds-where}
-use Rattle.pair.specs.Answer.{given, pairOf, answerOf}
+use Rattle.pair.specs.declared.Answer.{Answer}
+use Rattle.pair.specs.Answer.{given, pairOf, answerOf, answerFor}
+use Rattle.pair.specs.Answer as pair
 use Rattle.pair.specs.Meaning.{Answered}
-use Rattle.pair.proofs.Laws.{fields-are}
+use Rattle.pair.proofs.Laws.{some-tile, fields-are}
 use Rattle.drawing.specs.Marks.{RegionMarks}
 use Rattle.drawing.specs.Drawing.{regionMarks, drawnValue, drawnCells}
 use Rattle.drawing.proofs.Drawing.{Roomy, cellLines, cell-is, cell-in-range, cell-roomy, region-marks-means}
+use Rattle.drawn.specs.declared.DrawnMatrix.{DrawnMatrix}
 use Rattle.drawn.specs.Drawn.{drawnFor, drawnOf}
+use Rattle.drawn.specs.Drawn as drawn
 use Rattle.agree.proofs.Cells.{cell-agrees}
 
 roomy : {R : Region} → KeepsRules R → (L : Lines) → RegionBox R L → Roomy L
@@ -162,3 +167,26 @@ module _ (first second : Region) where
   same-matrix ok =
       rw (fields-are first second ok, accepted-means first .1 (ok .first-kept), accepted-means second .1 (ok .second-kept))
       (refl, refl, cells-agree (ok .first-kept) (ok .second-kept))
+
+  abbrev Same : DrawnMatrix → Answer → Type 0
+  Same d p =
+      (d .number ≡ p .number) × (d .region ≡ p .region) × (d .ring ≡ p .ring) × (d .rows ≡ p .rows) × (d .columns ≡ p .columns) × (d .cells ≡ p .cells)
+
+  accepted-same : checkOf first ≡ Accepted → checkOf second ≡ Accepted → Same (drawnFor (regionBox first) (regionBox second) first second) (answerOf first second)
+  unfolding drawnFor given answerOf answerFor
+  accepted-same e f =
+      let one = accepted-means first .0 e in
+      let two = accepted-means second .0 f in
+      let some = some-tile first second (record { first-kept = one; second-kept = two }) in
+      rw (ne-eqb (relationOf (regionBox second) first) 0 (some .0), ne-eqb (relationOf (regionBox first) second) 0 (some .1))
+      (refl, refl, refl, refl, refl, cells-agree one two)
+
+  pub same-answer : Same (drawnOf first second) (pairOf first second)
+  unfolding drawnOf pairOf
+  same-answer = go (checkOf first) refl (checkOf second) refl
+    where
+      go : (x : Checked) → checkOf first ≡ x → (y : Checked) → checkOf second ≡ y
+          → Same (drawn.orRefused x 1 (drawn.orRefused y 2 (drawnFor (regionBox first) (regionBox second) first second))) (pair.orRefused x 1 (pair.orRefused y 2 (answerOf first second)))
+      go (Refused n r) e y f = (refl, refl, refl, refl, refl, refl)
+      go Accepted e (Refused n r) f = (refl, refl, refl, refl, refl, refl)
+      go Accepted e Accepted f = accepted-same e f

@@ -4,3 +4,4 @@ pub mod Narrow
 pub mod Pieces
 pub mod Cells
 pub mod Agree
+pub mod Twice

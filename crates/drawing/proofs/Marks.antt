@@ -45,10 +45,10 @@ stay-fits a b lo hi up ha hb = go (ltb a b) refl (ltb b a) refl up
     go false e false f false = record { some = omega arith; from-part = omega arith; to-part = omega arith; small = omega arith }
 
 pub across-fits : (own k : Box) (g : Edge) → EdgeInPlaces g → StayFits (acrossStay own k g)
-across-fits own k g h = stay-fits (g .ax) (g .bx) (k .west) (k .east) (counted (own .west) (own .east) (g .ax) (ltb (g .ay) (g .by))) (h .ax) (h .bx)
+across-fits own k g h = stay-fits _ _ _ _ _ (h .ax) (h .bx)
 
 pub up-fits : (own k : Box) (g : Edge) → EdgeInPlaces g → StayFits (upStay own k g)
-up-fits own k g h = stay-fits (g .ay) (g .by) (k .south) (k .north) (counted (own .south) (own .north) (g .ay) (ltb (g .bx) (g .ax))) (h .ay) (h .by)
+up-fits own k g h = stay-fits _ _ _ _ _ (h .ay) (h .by)
 
 -- ---- one axis in places
 abbrev pub Strictly : (a b lo hi j k : ℕ) → Type 0
