@@ -1,4 +1,4 @@
--- SCOPE 6.4: the call for the drawn matrix. Region 1 is wholly checked, then region 2, and a refusal says which of them it is of, as the pair call's do.
+-- SCOPE 6.3: the call for the drawn matrix. Region 1 is wholly checked, then region 2, and a refusal says which of them it is of, as the pair call's do.
 -- Beside a refusal all other fields are 0.
 --   refusedWith n g r          the refusal with number n that names region g and ring r
 --   orRefused c g a            the answer a where the check c accepts region g, and its refusal where not
