@@ -4,7 +4,7 @@
 //!
 //! From the ground up: `fraction`, `plane`, `tile` and `refusal` are the words;
 //! `region`, `meet` and `check` say which outlines are accepted; `relation`,
-//! `matrix` and `pair` say where one lies from another; `sheet`, `card`, `host`
+//! `matrix`, `drawn` and `pair` say where one lies from another; `sheet`, `card`, `host`
 //! and `listing` are the calls on parcels; `desk` asks them all at a keyboard,
 //! and `make` invents requests and cards for it.
 
@@ -13,6 +13,7 @@
 pub mod card;
 pub mod check;
 pub mod desk;
+pub mod drawn;
 pub mod fraction;
 pub mod hex;
 pub mod host;
