@@ -3,18 +3,15 @@
 --   value-agrees       so each cell has the same value in both;  cells-agree  and the nine are the same
 --   same-matrix        rows, columns and cells of the drawn answer are those of the pair answer
 --   same-answer        and so are number, region and ring, and for refused pairs too: all six fields, for any two regions
-use mathlib.Core.Path.{_≡_, refl, sym, _∙_, ap}
+use mathlib.Core.Path.{_≡_, refl, sym, _∙_}
 use mathlib.Core.Logic.{_↔_}
 use mathlib.Core.Bool.{Bool, true, false, _&&_}
-use mathlib.Core.List.{List, []}
-use Prim.Native.Nat.{ℕ, _+_, _*_, _/_, _%_, _≤_, _<_}
+use Prim.Native.Nat.{ℕ, _+_, _*_, _/_, _%_, _<_}
 use native.Mathlib.Omega.{arith}
-use borrow.Author.Tests.{ltb-true, ne-eqb}
+use borrow.Author.Tests.{ltb-true}
 use lib.Dec.{ltb}
-use lib.ListN.{getD}
 use lib.IntN.{ℤ}
 use Rattle.plane.specs.Choice.{pick}
-use Rattle.plane.specs.Lists.{tab}
 use Rattle.plane.specs.TileSet.{one-if, bit}
 use Rattle.plane.specs.Points.{Lines}
 use Rattle.plane.specs.Placed.{LinesInRange, boxOf, Upright}
@@ -28,23 +25,23 @@ use Rattle.region.specs.declared.Checked.{Checked}
 use Rattle.region.specs.declared.Checked.the-variants.{Accepted, Refused}
 use Rattle.region.proofs.Keeps.{keeps-fewer}
 use Rattle.region.proofs.Check.{accepted-means}
-use Rattle.relation.specs.Relation.{RegionBox, RegionHas, regionBox, relationOf, regionSeen}
+use Rattle.relation.specs.Relation.{RegionBox, RegionHas, regionBox, relationOf}
 use Rattle.relation.proofs.Regions.{region-box-there, region-box-is, region-upright, lines-in-range}
 use Rattle.relation.proofs.Relation.{relation-tile}
 use Rattle.relation.proofs.Spread.{box-wide, box-high}
 use Rattle.matrix.specs.Grid.{Cell}
 use Rattle.matrix.specs.Holding.{rowCount, columnCount, cellAt, holds}
 use Rattle.matrix.specs.Kept.{gridOf, cellIn}
-use Rattle.matrix.specs.Matrix.{cellValue, matrixOf, flatOf, valueAt}
+use Rattle.matrix.specs.Matrix.{cellValue, matrixOf, flatOf}
 use Rattle.matrix.proofs.Cells.{cell-there, cell-same}
 use Rattle.matrix.proofs.Holding.{holds-means, holds-second-means}
 use Rattle.matrix.proofs.Matrix.{value-at}
 use Rattle.matrix.proofs.Meaning.{holds-where}
 use Rattle.pair.specs.declared.Answer.{Answer}
-use Rattle.pair.specs.Answer.{given, pairOf, answerOf, answerFor}
+use Rattle.pair.specs.Answer.{given, pairOf, answerOf}
 use Rattle.pair.specs.Answer as pair
 use Rattle.pair.specs.Meaning.{Answered}
-use Rattle.pair.proofs.Laws.{some-tile, fields-are}
+use Rattle.pair.proofs.Laws.{fields-are}
 use Rattle.drawing.specs.Marks.{RegionMarks}
 use Rattle.drawing.specs.Drawing.{regionMarks, drawnValue, drawnCells}
 use Rattle.drawing.proofs.Drawing.{Roomy, cellLines, cell-is, cell-in-range, cell-roomy, region-marks-means}
@@ -173,13 +170,8 @@ module _ (first second : Region) where
       (d .number ≡ p .number) × (d .region ≡ p .region) × (d .ring ≡ p .ring) × (d .rows ≡ p .rows) × (d .columns ≡ p .columns) × (d .cells ≡ p .cells)
 
   accepted-same : checkOf first ≡ Accepted → checkOf second ≡ Accepted → Same (drawnFor (regionBox first) (regionBox second) first second) (answerOf first second)
-  unfolding drawnFor given answerOf answerFor
-  accepted-same e f =
-      let one = accepted-means first .0 e in
-      let two = accepted-means second .0 f in
-      let some = some-tile first second (record { first-kept = one; second-kept = two }) in
-      rw (ne-eqb (relationOf (regionBox second) first) 0 (some .0), ne-eqb (relationOf (regionBox first) second) 0 (some .1))
-      (refl, refl, refl, refl, refl, cells-agree one two)
+  unfolding drawnFor given answerOf
+  accepted-same e f = (refl, refl, refl, refl, refl, cells-agree (accepted-means first .0 e) (accepted-means second .0 f))
 
   pub same-answer : Same (drawnOf first second) (pairOf first second)
   unfolding drawnOf pairOf

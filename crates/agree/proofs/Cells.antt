@@ -3,27 +3,25 @@
 --   ring-inside      a cell that a ring marks lies in the own box
 --   ring-tile        a ring that marks a cell has the tile around it;  ring-marks  and where the cell lies in the own box, the other way round
 --   cell-agrees      a region that keeps rules 1 to 6 marks a cell exactly where the cell lies in its box and the region has the tile around it
-use mathlib.Core.Path.{_≡_, refl, sym, _∙_, ap}
-use mathlib.Core.Logic.{_↔_, _⊎_, inl, inr, ⊎-elim}
+use mathlib.Core.Path.{_≡_, refl, ap}
+use mathlib.Core.Logic.{_↔_, inl, inr}
 use mathlib.Core.Bool.{true}
 use mathlib.Core.List.{List}
-use Prim.Native.Nat.{ℕ, zero, suc, _+_, _-_, _*_, _/_, _%_, _≤_, _<_}
+use Prim.Native.Nat.{ℕ, zero, suc, _+_, _-_, _*_, _≤_, _<_}
 use native.Mathlib.Omega.{arith}
 use native.Mathlib.Nat.{zero-add}
 use native.Mathlib.Decide.{ℕ-discrete}
 use lib.Dec.{leb}
 use lib.ListN.{length}
 use lib.IntN.{ℤ}
-use lib.Signed.{_<ℤ_, _≤ℤ_}
 use Rattle.plane.specs.Place.{placeOf, inRange}
-use Rattle.plane.specs.Points.{Point, Lines, vertex}
-use Rattle.plane.specs.Placed.{PointInRange, LinesInRange, boxOf, Upright}
+use Rattle.plane.specs.Points.{Lines}
+use Rattle.plane.specs.Placed.{LinesInRange, boxOf, Upright}
 use Rattle.plane.specs.Tiles.{columnOf, rowOf}
 use Rattle.plane.proofs.Place.{place-lt, place-eq, place-at-most}
 use Rattle.plane.proofs.TileSet.{one-le}
 use Rattle.ring.specs.Edges.{corner, after, RingInRange}
 use Rattle.ring.specs.Tangled.{Tangled}
-use Rattle.ring.specs.RingBox.{BoxIs}
 use Rattle.ring.specs.RingTiles.{RingHas, CoversAndEncloses}
 use Rattle.ring.proofs.RingBox.{box-in-range}
 use Rattle.ring.proofs.Edges.{after-inner, after-last, after-in-range}
@@ -36,7 +34,7 @@ use Rattle.relation.proofs.Regions.{lines-in-range}
 use Rattle.matrix.specs.Grid.{IsLine, Strip, Cell}
 use Rattle.matrix.specs.Holding.{RangeContains, HoldsWhere, rangeOf}
 use Rattle.matrix.proofs.Holding.{range-means}
-use Rattle.drawing.specs.Marks.{SameLines, RingMarks, RegionMarks}
+use Rattle.drawing.specs.Marks.{RingMarks, RegionMarks}
 use Rattle.drawing.proofs.Drawing.{Roomy, cellLines, cell-in-range, cell-roomy}
 use Rattle.agree.proofs.Middle.{Held, edge-middle}
 use Rattle.agree.proofs.Wider.{Around, around-places, ring-wider}

@@ -5,7 +5,7 @@
 --   point-in            a point strictly between two lines, by its weights in places
 --   edge-middle         an edge that marks the cell gives the ring its middle tile
 use mathlib.Core.Path.{_≡_, refl, sym, _∙_, ap}
-use mathlib.Core.Logic.{_↔_, _⊎_, inl, inr, ⊎-elim, _≢_}
+use mathlib.Core.Logic.{_↔_, _⊎_, inl, inr, _≢_}
 use mathlib.Core.Bool.{Bool, true, false}
 use mathlib.Core.List.{List}
 use Prim.Native.Nat.{ℕ, _+_, _*_, _≤_, _<_}
@@ -18,7 +18,7 @@ use Rattle.plane.specs.Points.{Point, Lines, vertex, along, Fraction}
 use Rattle.plane.specs.Placed.{PointInRange, LinesInRange, boxOf, Upright}
 use Rattle.plane.proofs.Logic.{clash}
 use Rattle.plane.proofs.Place.{place-lt, place-eq}
-use Rattle.edge.specs.Clauses.{Apart, BelongsTo, going-north, going-south, going-east, going-west, HasTile}
+use Rattle.edge.specs.Clauses.{going-north, going-south, going-east, going-west, HasTile}
 use Rattle.edge.proofs.Weights.{rest, rest-sum, InCol}
 use Rattle.ring.specs.Edges.{corner, after, RingInRange}
 use Rattle.ring.specs.Tangled.{Tangled}
@@ -27,7 +27,7 @@ use Rattle.ring.proofs.Edges.{after-in-range}
 use Rattle.ring.proofs.RingTiles.{ring-means}
 use Rattle.pin.proofs.Entered.{inside-place, entered-has}
 use Rattle.pin.proofs.Sides.{Sides, sides}
-use Rattle.drawing.specs.Marks.{Between, MarksAt, inside, east-of-it, west-of-it, north-of-it, south-of-it, Marks, ToEast, ToWest, ToNorth, ToSouth}
+use Rattle.drawing.specs.Marks.{Between, inside, east-of-it, west-of-it, north-of-it, south-of-it, Marks, ToEast, ToWest, ToNorth, ToSouth}
 use Rattle.drawing.proofs.Drawing.{Roomy}
 
 pub record Held (L : Lines) (xs : List ℤ) (from n : ℕ) : Type 0 where

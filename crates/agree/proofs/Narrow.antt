@@ -7,8 +7,8 @@
 --   middle-is    where the own box covers the other, the strip in its middle is the middle
 --   strip-in     a strip that the own box has a point strictly inside of lies inside the own box;  past-in, short-in  and one beside a line of which a piece
 --                counts for it
-use mathlib.Core.Path.{_≡_, refl, sym, _∙_, ap}
-use mathlib.Core.Logic.{_↔_, _⊎_, inl, inr, ⊎-elim, _≢_}
+use mathlib.Core.Path.{_≡_, refl}
+use mathlib.Core.Logic.{_⊎_, inl, inr, _≢_}
 use Prim.Native.Nat.{ℕ, zero, suc, _+_, _*_, _≤_, _<_}
 use native.Mathlib.Omega.{arith}
 use native.Mathlib.Nat.{mul-le-mul-left, mul-lt-mul-of-pos-left, lt-of-mul-lt-mul-left}

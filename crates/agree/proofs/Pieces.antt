@@ -2,8 +2,8 @@
 --   Within2, PointIn    a cell, a point in the own box, in places
 --   edge-inside         a cell that an edge marks lies in the own box
 --   edge-marks          an edge with the tile around a cell of the own box marks the cell
-use mathlib.Core.Path.{_≡_, refl, sym, _∙_, ap}
-use mathlib.Core.Logic.{_↔_, _⊎_, inl, inr, ⊎-elim, _≢_}
+use mathlib.Core.Path.{_≡_, sym, _∙_, ap}
+use mathlib.Core.Logic.{_⊎_, inl, inr, ⊎-elim, _≢_}
 use mathlib.Core.Bool.{true}
 use Prim.Native.Nat.{ℕ, _+_, _*_, _≤_, _<_}
 use native.Mathlib.Omega.{arith}
@@ -19,7 +19,7 @@ use Rattle.edge.specs.Clauses.{Apart, After, Before, BelongsTo, going-north, go
 use Rattle.edge.specs.Clauses as clauses
 use Rattle.edge.proofs.Weights.{fraction, rest, rest-pos, rest-sum, InCol}
 use Rattle.pin.proofs.Entered.{inside-place}
-use Rattle.drawing.specs.Marks.{ToEast, ToWest, ToNorth, ToSouth, MarksAt, inside, east-of-it, west-of-it, north-of-it, south-of-it, Marks}
+use Rattle.drawing.specs.Marks.{MarksAt, inside, east-of-it, west-of-it, north-of-it, south-of-it, Marks}
 use Rattle.drawing.proofs.Drawing.{Roomy}
 use Rattle.agree.proofs.Middle.{point-in}
 use Rattle.agree.proofs.Wider.{Around}

@@ -3,8 +3,7 @@
 --   twice-refused    the region breaks rule 6, and none before it
 --   twice-by-tiles, twice-drawn    the one engine gives the only cell 2, the other 3
 use mathlib.Core.Path.{_≡_, refl}
-use mathlib.Core.List.{List, [], _∷_}
-use Prim.Native.Nat.{ℕ}
+use mathlib.Core.List.{[], _∷_}
 use lib.IntN.{pos}
 use Rattle.plane.specs.Place.{placeOf, inRange}
 use Rattle.plane.specs.Folds.{anyTo, sumTo, firstOf, leastTo, greatestTo}

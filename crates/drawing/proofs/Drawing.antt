@@ -6,9 +6,9 @@
 --                        and apart
 --   first-drawn, second-drawn    the cell in row i and column j of the grid is marked for the first region, for the second, exactly where the tests say so
 --   Roomy L              the lines of a box or a cell that has width and height
-use mathlib.Core.Path.{_≡_, refl, sym, _∙_, ap}
+use mathlib.Core.Path.{_≡_, _∙_, ap}
 use mathlib.Core.Logic.{_↔_}
-use mathlib.Core.Bool.{true, _&&_}
+use mathlib.Core.Bool.{true}
 use mathlib.Core.List.{List}
 use Prim.Native.Nat.{ℕ, _<_}
 use native.Mathlib.Omega.{arith}
@@ -31,9 +31,9 @@ use Rattle.region.specs.Rules.{Keeps}
 use Rattle.region.proofs.Ends.{size-least}
 use Rattle.region.proofs.Keeps.{keeps-fewer, sized, in-range}
 use Rattle.matrix.specs.Grid.{Cell}
-use Rattle.matrix.specs.Holding.{Rectangle, acrossLines, upLines, columnCount, rowCount}
-use Rattle.matrix.specs.Kept.{gridOf, cellIn, rectangleOf}
-use Rattle.matrix.proofs.Cells.{placed, across-means, up-means, cell-within, cell-there, cell-places, cell-same}
+use Rattle.matrix.specs.Holding.{Rectangle, columnCount, rowCount}
+use Rattle.matrix.specs.Kept.{gridOf, cellIn}
+use Rattle.matrix.proofs.Cells.{across-means, up-means, cell-within, cell-there, cell-places, cell-same}
 use Rattle.matrix.proofs.Kept.{cell-kept}
 use Rattle.drawing.specs.Marks.{Marks, SameLines, RingMarks, RegionMarks, DrawnAt}
 use Rattle.drawing.specs.Stays.{marks}

@@ -4,16 +4,16 @@
 --   stay-means      a moment lies within a stay exactly where the axis is strictly between the lines, or stands on the one for whose side it counts
 --   side-past, side-before    for which side an edge along a line counts
 --   marks-means     an edge marks a cell exactly where the test says so
-use mathlib.Core.Path.{_≡_, refl, sym, _∙_, ap}
+use mathlib.Core.Path.{_≡_, refl, sym, _∙_}
 use mathlib.Core.Logic.{_↔_, _⊎_, inl, inr, ⊎-elim, _≢_}
 use mathlib.Core.Bool.{Bool, true, false, not, _&&_}
 use Prim.Native.Nat.{ℕ, _+_, _-_, _*_, _≤_, _<_}
 use native.Mathlib.Omega.{arith}
 use native.Mathlib.Nat.{mul-lt-mul-of-pos-left, lt-of-mul-lt-mul-left}
 use native.Mathlib.Decide.{decLt, ℕ-discrete}
-use borrow.Author.Tests.{lt-ltb, le-ltb, ltb-true, ltb-false, eq-eqb, ne-eqb}
+use borrow.Author.Tests.{le-ltb, ltb-true, ltb-false, eq-eqb, ne-eqb}
 use lib.Dec.{ltb, eqb}
-use lib.IntN.{ℤ, pos, _*ℤ_}
+use lib.IntN.{ℤ}
 use lib.Signed.{_<ℤ_}
 use Rattle.plane.specs.Choice.{pick}
 use Rattle.plane.specs.Place.{placeOf, inRange}
@@ -28,7 +28,7 @@ use Rattle.edge.specs.Clauses.{Apart}
 use Rattle.edge.proofs.Weights.{fraction, rest, rest-pos, rest-sum}
 use Rattle.ring.specs.Repeated.{equalEnds}
 use Rattle.drawing.specs.declared.Stay.{Stay}
-use Rattle.drawing.specs.Marks.{Between, ToEast, ToWest, ToNorth, ToSouth, MarksAt, inside, east-of-it, west-of-it, north-of-it, south-of-it, Marks}
+use Rattle.drawing.specs.Marks.{Between, MarksAt, inside, east-of-it, west-of-it, north-of-it, south-of-it, Marks}
 use Rattle.drawing.specs.Stays.{stayUp, stayDown, counted, stayOf, acrossStay, upStay, overlaps, marks, StayFits}
 use Rattle.drawing.proofs.Stays.{During, up-during, down-during, past-during, before-during, overlaps-means}
 

@@ -5,14 +5,13 @@
 --   past-during, before-during    an axis that stands still, counted just past its place, just before it
 --   stay-fits             the numbers of a stay are in bounds
 --   overlaps-means        two stays overlap exactly where some point, strictly between the ends, lies within both
-use mathlib.Core.Path.{_≡_, refl, sym, _∙_, ap}
+use mathlib.Core.Path.{_≡_, ap}
 use mathlib.Core.Logic.{_↔_, _⊎_, inl, inr}
-use mathlib.Core.Bool.{Bool, true, false, _&&_}
-use Prim.Native.Nat.{ℕ, _+_, _-_, _*_, _≤_, _<_, min}
+use mathlib.Core.Bool.{true}
+use Prim.Native.Nat.{ℕ, _+_, _-_, _*_, _≤_, _<_}
 use native.Mathlib.Omega.{arith}
 use native.Mathlib.Nat.{mul-lt-mul-of-pos-left, mul-le-mul-left, lt-of-mul-lt-mul-left}
 use native.Mathlib.Decide.{decLt, decLe}
-use lib.Dec.{ltb}
 use Rattle.plane.proofs.Logic.{iff-join, iff-and, and-means, lt-means}
 use Rattle.drawing.specs.declared.Stay.{Stay}
 use Rattle.drawing.specs.Stays.{gap, stayUp, stayDown, overlaps, StayFits}

@@ -4,7 +4,6 @@
 --   orRefused c g a            the answer a where the check c accepts region g, and its refusal where not
 --   drawnFor a b first second  the answer's fields for two regions with the boxes a and b
 --   drawnOf first second       the answer for any two regions
-use mathlib.Core.List.{List}
 use Prim.Native.Nat.{ℕ}
 use lib.ListN.{replicate}
 use Rattle.plane.specs.declared.Box.{Box}

@@ -1,11 +1,11 @@
 -- The loop's invariant: the cells before k have their values.
-use mathlib.Core.Path.{_≡_, refl}
+use mathlib.Core.Path.{_≡_}
 use Prim.Native.Nat.{ℕ, _≤_, _<_, _-_, _/_, _%_}
 use native.Mathlib.Omega.{arith}
 use lib.ListN.{length, getD, length-set}
 use borrow.Author.Needs.{needs}
 use Rattle.plane.proofs.Lists.{tab-more, tab-all}
-use Rattle.region.specs.Region.{Region, regionOf}
+use Rattle.region.specs.Region.{regionOf}
 use Rattle.drawing.specs.Drawing.{drawnValue, drawnCells}
 use Rattle.drawn.proofs.cells_drawn.Statement.{statement}
 use Rattle.drawn.proofs.cells_drawn.Tie as tie

@@ -10,7 +10,6 @@ use Rattle.plane.specs.Folds.{anyTo}
 use Rattle.plane.proofs.Folds.{none-yet, none-more, found}
 use Rattle.ring.specs.Stretch.{Stretch}
 use Rattle.region.specs.Region.{Region, regionOf, startOf, sizeOf}
-use Rattle.region.specs.Rules.{Keeps}
 use Rattle.region.proofs.Ends.{size-least}
 use Rattle.region.proofs.Keeps.{keeps-fewer, Sized, sized, in-range, ring-order, ring-stretch}
 use Rattle.drawing.specs.Drawing.{ringMarks, regionMarks}
