@@ -1,18 +1,21 @@
-// The matrix straight from the edges, as it is drawn: lay the lines of both boxes over the plane, and mark each cell that an edge of a region goes
-// through. Plain on purpose: no tile and no relation is asked for.
+// The matrix straight from the edges, as it is drawn: lay the lines of both boxes over the plane, cut each edge by them, and mark the cells that it
+// goes through; at the end the centre clause. Plain on purpose: no tile and no relation is asked for.
 ghost use mathlib.Core.Path.{_≡_};
-ghost use Prim.Native.Nat.{_<_, _≤_};
+ghost use Prim.Native.Nat.{_*_, _/_, _%_, _<_, _≤_};
 ghost use Rattle.plane.specs.Placed.{BoxInPlaces, EdgeInPlaces};
 ghost use Rattle.plane.specs.Folds.{anyTo};
+ghost use Rattle.plane.specs.Lists.{tab};
+ghost use Rattle.plane.specs.TileSet.{one-if, setOf};
 ghost use Rattle.ring.specs.Edges.{ringEdge};
 ghost use Rattle.ring.specs.Stretch.{Stretch};
 ghost use Rattle.region.specs.Region.{regionOf};
 ghost use Rattle.region.specs.Rules.{Keeps};
 ghost use Rattle.relation.specs.Relation.{regionBox};
-ghost use Rattle.matrix.specs.Kept.{gridOf};
+ghost use Rattle.matrix.specs.Kept.{gridOf, cellIn};
 ghost use Rattle.drawing.specs.Stays.{gap, stayUp, stayDown, counted, stayOf, overlaps, marks, StayFits};
-ghost use Rattle.drawing.specs.Drawing.{sameBox, ringMarks, regionMarks, drawnValue, drawnCells};
+ghost use Rattle.drawing.specs.Drawing.{sameBox};
 ghost use Rattle.drawn.specs.Drawn.{refusedWith, orRefused, drawnFor, drawnOf};
+ghost use Rattle.drawn.specs.Steps.{rowStay, rowSet, edgesMark, ringCentre, regionCentre, markedBy, isMarked, valueBy};
 use drawing::Stay;
 use matrix::CELLS;
 use matrix::GridLines;
@@ -41,6 +44,12 @@ pub struct DrawnMatrix {
     pub rows: u16,
     pub columns: u16,
     pub cells: [u8; 9],
+}
+
+// What one region marks: the cells by row, as a set of nine, that its edges mark, and whether the centre clause marks the other's box.
+struct Marked {
+    cells: u16,
+    centre: bool,
 }
 
 // How far q lies past p, at most n.
@@ -118,33 +127,126 @@ fn overlaps(s: Stay, t: Stay) -> bool
     t.from * s.of < s.to * t.of
 }
 
-// Does the edge, of a region with the box `own`, mark the cell?
-fn marks(own: Box, cell: Box, g: Edge) -> bool
-    requires { ⌜ EdgeInPlaces g ⌝ }
-    ensures { λ r. ⌜ r ≡ marks own cell g ⌝ }
+fn weight(t: bool, w: u16) -> u16
+    ensures { λ r. ⌜ (r ≡ one-if t * w) × (r ≤ w) ⌝ }
 {
-    if equal_ends(g) {
-        return false;
-    }
-    let east = counted(own.west, own.east, g.ax, g.ay < g.by);
-    let north = counted(own.south, own.north, g.ay, g.bx < g.ax);
-    let across = stay_of(g.ax, g.bx, cell.west, cell.east, east);
-    let up = stay_of(g.ay, g.by, cell.south, cell.north, north);
-    overlaps(across, up)
+    if t { w } else { 0 }
 }
 
-fn edges_mark(own: Box, cell: Box, xs: &[i32], from: usize, n: usize) -> bool
-    requires { ⌜ Stretch (now xs) from n ⌝ }
-    ensures { λ r. ⌜ r ≡ anyTo (λ i. marks own cell (ringEdge (now (xs .entry)) from n i)) n ⌝ }
+// The cells of one row that the edge marks, from the west 1, 2 and 4: while it is in the row it is in their column.
+fn row_marks(up: Stay, west: Stay, middle: Stay, east: Stay) -> u16
+    requires { ⌜ StayFits up × StayFits west × StayFits middle × StayFits east ⌝ }
+    ensures { λ r. ⌜ (r ≡ rowSet up west middle east) × (r ≤ 7) ⌝ }
 {
+    if up.to <= up.from {
+        return 0;
+    }
+    weight(overlaps(west, up), 1) + weight(overlaps(middle, up), 2) + weight(overlaps(east, up), 4)
+}
+
+// Those of row i from the north.
+fn marks_in_row(
+    g: GridLines,
+    e: Edge,
+    above: bool,
+    i: usize,
+    west: Stay,
+    middle: Stay,
+    east: Stay,
+) -> u16
+    requires { ⌜ (g .rows ≤ 3) × EdgeInPlaces e × StayFits west × StayFits middle × StayFits east ⌝ }
+    ensures { λ r. ⌜ (r ≡ rowSet (rowStay g e above i) west middle east) × (r ≤ 7) ⌝ }
+{
+    let rows = g.rows as usize;
+    if rows <= i {
+        return 0;
+    }
+    let lines = g.up;
+    let up = stay_of(e.ay, e.by, lines[rows - 1 - i], lines[rows - i], above);
+    row_marks(up, west, middle, east)
+}
+
+// The cells of the grid that the edge, of a region with the box `own`, marks: the lines cut it, and its stays in the three columns and in the
+// three rows tell which cells it goes through. Cell k by row is bit k.
+fn edge_marks(own: Box, g: GridLines, e: Edge) -> u16
+    requires { ⌜ (g .rows ≤ 3) × EdgeInPlaces e ⌝ }
+    ensures { λ r. ⌜ r ≡ setOf (λ c. marks own (cellIn g (c / 3) (c % 3)) e) 9 ⌝ }
+{
+    if equal_ends(e) {
+        return 0;
+    }
+    let past = counted(own.west, own.east, e.ax, e.ay < e.by);
+    let above = counted(own.south, own.north, e.ay, e.bx < e.ax);
+    let lines = g.across;
+    let west = stay_of(e.ax, e.bx, lines[0], lines[1], past);
+    let middle = stay_of(e.ax, e.bx, lines[1], lines[2], past);
+    let east = stay_of(e.ax, e.bx, lines[2], lines[3], past);
+    let top = marks_in_row(g, e, above, 0, west, middle, east);
+    let centre = marks_in_row(g, e, above, 1, west, middle, east);
+    let bottom = marks_in_row(g, e, above, 2, west, middle, east);
+    top + 8 * centre + 64 * bottom
+}
+
+fn ring_marks(own: Box, g: GridLines, xs: &[i32], from: usize, n: usize) -> u16
+    requires { ⌜ (g .rows ≤ 3) × Stretch (now xs) from n ⌝ }
+    ensures { λ r. ⌜ r ≡ setOf (λ c. anyTo (λ i. marks own (cellIn g (c / 3) (c % 3)) (ringEdge (now (xs .entry)) from n i)) n) 9 ⌝ }
+{
+    let mut set: u16 = 0;
     let mut k: usize = 0;
     while k < n {
-        if marks(own, cell, ring_edge(xs, from, n, k)) {
-            return true;
-        }
+        set = set | edge_marks(own, g, ring_edge(xs, from, n, k));
         k += 1;
     }
+    set
+}
+
+// The cells that some edge of the region marks.
+fn region_marks(own: Box, g: GridLines, outline: &[i32], ends: &[u16]) -> u16
+    requires { ⌜ (g .rows ≤ 3) × Keeps 4 (regionOf (now outline) (now ends)) ⌝ }
+    ensures { λ s. ⌜ s ≡ setOf (λ c. edgesMark own (cellIn g (c / 3) (c % 3)) (regionOf (now (outline .entry)) (now (ends .entry)))) 9 ⌝ }
+{
+    let mut set: u16 = 0;
+    let mut r: usize = 0;
+    while r < ends.len() {
+        set = set | ring_marks(own, g, outline, start_of(ends, r), size_of(ends, r));
+        r += 1;
+    }
+    set
+}
+
+// The centre clause: the ring covers the other's box, and encloses its centre.
+fn ring_centre(other: Box, xs: &[i32], from: usize, n: usize) -> bool
+    requires { ⌜ BoxInPlaces other × Stretch (now xs) from n × (0 < n) ⌝ }
+    ensures { λ r. ⌜ r ≡ ringCentre other (now (xs .entry)) from n ⌝ }
+{
+    if !covers_box(stretch_box(xs, from, n), other) {
+        return false;
+    }
+    ring_encloses(other, xs, from, n)
+}
+
+fn region_centre(other: Box, outline: &[i32], ends: &[u16]) -> bool
+    requires { ⌜ BoxInPlaces other × Keeps 4 (regionOf (now outline) (now ends)) ⌝ }
+    ensures { λ t. ⌜ t ≡ regionCentre other (regionOf (now (outline .entry)) (now (ends .entry))) ⌝ }
+{
+    let mut r: usize = 0;
+    while r < ends.len() {
+        if ring_centre(other, outline, start_of(ends, r), size_of(ends, r)) {
+            return true;
+        }
+        r += 1;
+    }
     false
+}
+
+// What a region with the box `own` marks: cells by its edges, and the other's box by the centre clause.
+fn region_drawn(own: Box, other: Box, g: GridLines, outline: &[i32], ends: &[u16]) -> Marked
+    requires { ⌜ (g .rows ≤ 3) × BoxInPlaces other × Keeps 4 (regionOf (now outline) (now ends)) ⌝ }
+    ensures { λ m. ⌜ m ≡ markedBy own other g (regionOf (now (outline .entry)) (now (ends .entry))) ⌝ }
+{
+    let cells = region_marks(own, g, outline, ends);
+    let centre = region_centre(other, outline, ends);
+    Marked { cells, centre }
 }
 
 fn same_box(k: Box, b: Box) -> bool
@@ -162,59 +264,24 @@ fn same_box(k: Box, b: Box) -> bool
     k.north == b.north
 }
 
-// By an edge, or by the centre clause where the cell is the other's box.
-fn ring_marks(own: Box, other: Box, cell: Box, xs: &[i32], from: usize, n: usize) -> bool
-    requires { ⌜ BoxInPlaces other × Stretch (now xs) from n × (0 < n) ⌝ }
-    ensures { λ r. ⌜ r ≡ ringMarks own other cell (now (xs .entry)) from n ⌝ }
+// The cell, cell k by row, is marked: by an edge, or by the centre clause where it is the other's box.
+fn is_marked(m: Marked, cell: Box, other: Box, k: usize) -> bool
+    requires { ⌜ k < 9 ⌝ }
+    ensures { λ r. ⌜ r ≡ isMarked m cell other k ⌝ }
 {
-    if edges_mark(own, cell, xs, from, n) {
+    if (m.cells >> k) % 2 == 1 {
         return true;
     }
-    if !same_box(cell, other) {
+    if !m.centre {
         return false;
     }
-    if !covers_box(stretch_box(xs, from, n), other) {
-        return false;
-    }
-    ring_encloses(other, xs, from, n)
-}
-
-fn region_marks(own: Box, other: Box, cell: Box, outline: &[i32], ends: &[u16]) -> bool
-    requires { ⌜ BoxInPlaces other × Keeps 4 (regionOf (now outline) (now ends)) ⌝ }
-    ensures { λ r. ⌜ r ≡ regionMarks own other cell (regionOf (now (outline .entry)) (now (ends .entry))) ⌝ }
-{
-    let mut r: usize = 0;
-    while r < ends.len() {
-        if ring_marks(
-            own,
-            other,
-            cell,
-            outline,
-            start_of(ends, r),
-            size_of(ends, r),
-        ) {
-            return true;
-        }
-        r += 1;
-    }
-    false
+    same_box(cell, other)
 }
 
 // 1 where the first region marks the cell, plus 2 where the second does; 0 past the size of the grid.
-fn cell_drawn(
-    g: GridLines,
-    a: Box,
-    b: Box,
-    first: &[i32],
-    first_ends: &[u16],
-    second: &[i32],
-    second_ends: &[u16],
-    i: usize,
-    j: usize,
-) -> u8
-    requires { ⌜ (g ≡ gridOf a b) × BoxInPlaces a × BoxInPlaces b × Keeps 4 (regionOf (now first) (now «first_ends»))
-        × Keeps 4 (regionOf (now second) (now «second_ends»)) ⌝ }
-    ensures { λ v. ⌜ v ≡ drawnValue a b (regionOf (now (first .entry)) (now («first_ends» .entry))) (regionOf (now (second .entry)) (now («second_ends» .entry))) i j ⌝ }
+fn cell_drawn(g: GridLines, a: Box, b: Box, first: Marked, second: Marked, i: usize, j: usize) -> u8
+    requires { ⌜ (g ≡ gridOf a b) × (i < 3) × (j < 3) ⌝ }
+    ensures { λ v. ⌜ v ≡ valueBy a b first second i j ⌝ }
 {
     if g.rows as usize <= i {
         return 0;
@@ -223,39 +290,18 @@ fn cell_drawn(
         return 0;
     }
     let cell = cell_at(g, i, j);
-    value_of(
-        region_marks(a, b, cell, first, first_ends),
-        region_marks(b, a, cell, second, second_ends),
-    )
+    let k = 3 * i + j;
+    value_of(is_marked(first, cell, b, k), is_marked(second, cell, a, k))
 }
 
-fn cells_drawn(
-    g: GridLines,
-    a: Box,
-    b: Box,
-    first: &[i32],
-    first_ends: &[u16],
-    second: &[i32],
-    second_ends: &[u16],
-) -> [u8; 9]
-    requires { ⌜ (g ≡ gridOf a b) × BoxInPlaces a × BoxInPlaces b × Keeps 4 (regionOf (now first) (now «first_ends»))
-        × Keeps 4 (regionOf (now second) (now «second_ends»)) ⌝ }
-    ensures { λ r. ⌜ r ≡ drawnCells a b (regionOf (now (first .entry)) (now («first_ends» .entry))) (regionOf (now (second .entry)) (now («second_ends» .entry))) ⌝ }
+fn cells_drawn(g: GridLines, a: Box, b: Box, first: Marked, second: Marked) -> [u8; 9]
+    requires { ⌜ g ≡ gridOf a b ⌝ }
+    ensures { λ r. ⌜ r ≡ tab (λ c. valueBy a b first second (c / 3) (c % 3)) 9 ⌝ }
 {
     let mut cells = [0u8; 9];
     let mut k: usize = 0;
     while k < CELLS {
-        cells[k] = cell_drawn(
-            g,
-            a,
-            b,
-            first,
-            first_ends,
-            second,
-            second_ends,
-            k / 3,
-            k % 3,
-        );
+        cells[k] = cell_drawn(g, a, b, first, second, k / 3, k % 3);
         k += 1;
     }
     cells
@@ -285,8 +331,8 @@ fn refusal(checked: Checked, region: u16) -> DrawnMatrix
     }
 }
 
-// The answer for two accepted regions.
-fn matrix_drawn(
+// The answer for two regions that are known to be accepted.
+pub fn matrix_drawn(
     first: &[i32],
     first_ends: &[u16],
     second: &[i32],
@@ -299,7 +345,9 @@ fn matrix_drawn(
     let a = region_box(first, first_ends);
     let b = region_box(second, second_ends);
     let g = grid_of(a, b);
-    let cells = cells_drawn(g, a, b, first, first_ends, second, second_ends);
+    let one = region_drawn(a, b, g, first, first_ends);
+    let two = region_drawn(b, a, g, second, second_ends);
+    let cells = cells_drawn(g, a, b, one, two);
     DrawnMatrix {
         number: 0,
         region: 0,

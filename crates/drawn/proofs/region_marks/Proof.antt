@@ -1,33 +1,43 @@
--- The loop's invariant: no ring before r marks the cell.
+-- The loop's invariant: the set has the cells that the edges of the rings before r mark.
 use mathlib.Core.Path.{_≡_, refl, sym, _∙_, ap}
-use mathlib.Core.Bool.{Bool, false}
-use Prim.Native.Nat.{ℕ, _-_, _≤_, _<_}
+use mathlib.Core.Bool.{Bool}
+use mathlib.Core.List.{List}
+use Prim.Native.Nat.{ℕ, _-_, _/_, _%_, _≤_, _<_}
 use native.Mathlib.Omega.{arith}
+use lib.Bits.{bitOr}
+use lib.IntN.{ℤ}
 use lib.ListN.{length}
 use borrow.Author.Needs.{needs}
 use Rattle.plane.specs.declared.Box.{Box}
 use Rattle.plane.specs.Folds.{anyTo}
-use Rattle.plane.proofs.Folds.{none-yet, none-more, found}
+use Rattle.plane.specs.TileSet.{setOf}
+use Rattle.plane.proofs.TileSet.{anySet, any-set-none, any-set-more}
+use Rattle.ring.specs.Edges.{ringEdge}
 use Rattle.ring.specs.Stretch.{Stretch}
 use Rattle.region.specs.Region.{Region, regionOf, startOf, sizeOf}
-use Rattle.region.proofs.Ends.{size-least}
 use Rattle.region.proofs.Keeps.{keeps-fewer, Sized, sized, in-range, ring-order, ring-stretch}
-use Rattle.drawing.specs.Drawing.{ringMarks, regionMarks}
+use Rattle.matrix.specs.declared.GridLines.{GridLines}
+use Rattle.matrix.specs.Kept.{cellIn}
+use Rattle.drawing.specs.Stays.{marks}
+use Rattle.drawn.specs.Steps.{edgesMark}
 use Rattle.drawn.proofs.region_marks.Statement.{statement}
 use Rattle.drawn.proofs.region_marks.Tie as tie
 
-abbrev ring : (own other cell : Box) → Region → ℕ → Bool
-ring own other cell R r = ringMarks own other cell (R .coordinates) (startOf (R .ends) r) (sizeOf (R .ends) r)
+abbrev ring : (own k : Box) → List ℤ → (from n : ℕ) → Bool
+ring own k xs from n = anyTo (λ i. marks own k (ringEdge xs from n i)) n
+
+abbrev rings : (own : Box) → GridLines → Region → ℕ → ℕ → Bool
+rings own g R r c = ring own (cellIn g (c / 3) (c % 3)) (R .coordinates) (startOf (R .ends) r) (sizeOf (R .ends) r)
 
 -- what holds of the ring holds of the numbers that the calls answered
 answered : (P : ℕ → ℕ → Type 0) {from n start size : ℕ} → from ≡ start → n ≡ size → P start size → P from n
 answered P e f p = rw (e, f) p
 
 abbrev Inv-loop : tie.InvT-loop
-Inv-loop own other cell outline ends r₀ r = (r ≤ length ends) × (anyTo (ring own other cell (regionOf outline ends)) r ≡ false)
+Inv-loop own g outline ends set₀ r₀ set r = (r ≤ length ends) × (set ≡ anySet (rings own g (regionOf outline ends)) r 9)
 
 abbrev μ-loop : tie.MeasureT-loop
-μ-loop own other cell outline ends r₀ r = length ends - r
+μ-loop own g outline ends set₀ r₀ set r = length ends - r
 
 module _ (s : tie.Start Inv-loop μ-loop) where
   abbrev region : Region
@@ -36,14 +46,11 @@ module _ (s : tie.Start Inv-loop μ-loop) where
   sizes : Sized region
   sizes = sized (keeps-fewer (omega arith) (s .pre .1))
 
-  abbrev There : ℕ → ℕ → Type 0
-  There from n = Stretch (region .coordinates) from n × (0 < n)
-
-  ring-there : (r : ℕ) → r < length (region .ends) → There (startOf (region .ends) r) (sizeOf (region .ends) r)
-  ring-there r h = (ring-stretch sizes r h (in-range (s .pre .1)), omega (arith, size-least (region .ends) (sizes .grown) r h))
+  ring-there : (r : ℕ) → r < length (region .ends) → Stretch (region .coordinates) (startOf (region .ends) r) (sizeOf (region .ends) r)
+  ring-there r h = ring-stretch sizes r h (in-range (s .pre .1))
 
 loop-holds : tie.Need-loop-holds Inv-loop μ-loop
-loop-holds c = (omega arith, none-yet _)
+loop-holds c = let s = c .before in (omega arith, any-set-none (rings (s .args .own) (s .args .g) (region s)) 9)
 
 start-of-requires : tie.Need-start-of-requires Inv-loop μ-loop
 start-of-requires c κs = omega (arith, c .loop-test .taken)
@@ -57,8 +64,7 @@ ring-marks-requires : tie.Need-ring-marks-requires Inv-loop μ-loop
 ring-marks-requires c κs =
     let l = c .before .before .before in
     let s = l .before .before in
-    let there = answered (There s) (c .before .start-of .ensures) (c .size-of .ensures) (ring-there s (l .loop .r) (c .before .before .loop-test .taken)) in
-    (s .pre .0, there .0, there .1)
+    (s .pre .0, answered (Stretch (region s .coordinates)) (c .before .start-of .ensures) (c .size-of .ensures) (ring-there s (l .loop .r) (c .before .before .loop-test .taken)))
 
 -- the ring that the pass looked at
 module _ (c : tie.After-ring-marks Inv-loop μ-loop) where
@@ -68,16 +74,12 @@ module _ (c : tie.After-ring-marks Inv-loop μ-loop) where
   abbrev begin : tie.Start Inv-loop μ-loop
   begin = turn .before .before
 
-  ring-is : c .ring-marks .result ≡ ring (begin .args .own) (begin .args .other) (begin .args .cell) (region begin) (turn .loop .r)
+  ring-is : c .ring-marks .result ≡ setOf (rings (begin .args .own) (begin .args .g) (region begin) (turn .loop .r)) 9
   ring-is =
       c .ring-marks .ensures
-      ∙ answered (λ from n. ringMarks (begin .args .own) (begin .args .other) (begin .args .cell) (region begin .coordinates) from n
-      ≡ ring (begin .args .own) (begin .args .other) (begin .args .cell) (region begin) (turn .loop .r))
+      ∙ answered (λ from n. setOf (λ d. ring (begin .args .own) (cellIn (begin .args .g) (d / 3) (d % 3)) (region begin .coordinates) from n) 9
+      ≡ setOf (rings (begin .args .own) (begin .args .g) (region begin) (turn .loop .r)) 9)
       (c .before .before .start-of .ensures) (c .before .size-of .ensures) refl
-
-returns : tie.Need-returns Inv-loop μ-loop
-unfolding regionMarks
-returns c = found _ _ (turn (c .before) .loop .r) (c .before .before .before .before .loop-test .taken) (sym (ring-is (c .before)) ∙ c .if1 .taken)
 
 add-r : tie.Need-add-r Inv-loop μ-loop
 add-r c = search needs
@@ -86,15 +88,17 @@ loop-less : tie.Need-loop-less Inv-loop μ-loop
 loop-less c = search needs
 
 loop-again : tie.Need-loop-again Inv-loop μ-loop
-loop-again c = (omega arith, none-more _ (turn (c .before) .loop .r) (turn (c .before) .loop .inv .1) (sym (ring-is (c .before)) ∙ c .if1 .left))
+loop-again c =
+    let s = begin c in
+    (omega arith, (λ i. bitOr (turn c .loop .inv .1 i) (ring-is c i)) ∙ any-set-more (rings (s .args .own) (s .args .g) (region s)) 9 (turn c .loop .r))
 
-returns-2 : tie.Need-returns-2 Inv-loop μ-loop
-unfolding regionMarks
-returns-2 c =
+returns : tie.Need-returns Inv-loop μ-loop
+unfolding edgesMark
+returns c =
     let l = c .before .loop in
     let s = c .before .before .before in
     let e : l .r ≡ length (s .args .ends .now) = omega arith in
-    sym (l .inv .1) ∙ ap (anyTo (ring (s .args .own) (s .args .other) (s .args .cell) (region s))) e
+    l .inv .1 ∙ ap (λ (r : ℕ). anySet (rings (s .args .own) (s .args .g) (region s)) r 9) e
 
 pub region-marks-spec : {M : Type 1} → statement M
 region-marks-spec =
@@ -106,8 +110,7 @@ region-marks-spec =
     start-of-requires
     size-of-requires
     ring-marks-requires
-    returns
     add-r
     loop-less
     loop-again
-    returns-2)
+    returns)

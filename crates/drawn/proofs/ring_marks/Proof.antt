@@ -1,98 +1,74 @@
-use mathlib.Core.Path.{_≡_, refl, sym, _∙_, ap}
-use mathlib.Core.Bool.{Bool, true, false}
+-- The loop's invariant: the set has the cells that the edges before k mark.
+use mathlib.Core.Path.{_≡_, _∙_, ap}
+use mathlib.Core.Bool.{Bool}
 use mathlib.Core.List.{List}
-use Prim.Native.Nat.{ℕ}
-use borrow.Author.Needs.{needs}
-use borrow.Author.Tests.{not-true, not-false}
+use Prim.Native.Nat.{ℕ, _-_, _/_, _%_, _≤_}
+use native.Mathlib.Omega.{arith}
+use lib.Bits.{bitOr}
 use lib.IntN.{ℤ}
+use Rattle.plane.specs.TileSet.{setOf}
 use Rattle.plane.specs.declared.Box.{Box}
-use Rattle.plane.specs.Folds.{anyTo}
+use Rattle.plane.specs.declared.Edge.{Edge}
+use Rattle.plane.proofs.TileSet.{anySet, any-set-none, any-set-more}
 use Rattle.ring.specs.Edges.{ringEdge}
-use Rattle.ring.specs.RingBox.{stretchBox, covers}
-use Rattle.ring.specs.Enclosed.{encloses}
+use Rattle.ring.proofs.Stretch.{edge-in-places}
+use Rattle.matrix.specs.declared.GridLines.{GridLines}
+use Rattle.matrix.specs.Kept.{cellIn}
 use Rattle.drawing.specs.Stays.{marks}
-use Rattle.drawing.specs.Drawing.{sameBox, ringMarks}
+use borrow.Author.Needs.{needs}
 use Rattle.drawn.proofs.ring_marks.Statement.{statement}
 use Rattle.drawn.proofs.ring_marks.Tie as tie
 
--- ---- the answer by its tests
-module _ (own other cell : Box) (xs : List ℤ) (from n : ℕ) where
-  abbrev edges : Bool
-  edges = anyTo (λ i. marks own cell (ringEdge xs from n i)) n
+abbrev edge : (own : Box) → GridLines → List ℤ → (from n : ℕ) → ℕ → ℕ → Bool
+edge own g xs from n i c = marks own (cellIn g (c / 3) (c % 3)) (ringEdge xs from n i)
 
-  abbrev around : Bool
-  around = covers (stretchBox xs from n) other
+abbrev Inv-loop : tie.InvT-loop
+Inv-loop own g xs from n set₀ k₀ set k = (k ≤ n) × (set ≡ anySet (edge own g xs from n) k 9)
 
-  by-edge : edges ≡ true → true ≡ ringMarks own other cell xs from n
-  unfolding ringMarks
-  by-edge p = rw p refl
+abbrev μ-loop : tie.MeasureT-loop
+μ-loop own g xs from n set₀ k₀ set k = n - k
 
-  other-cell : edges ≡ false → sameBox cell other ≡ false → false ≡ ringMarks own other cell xs from n
-  unfolding ringMarks
-  other-cell p q = rw (p, q) refl
+loop-holds : tie.Need-loop-holds Inv-loop μ-loop
+loop-holds c = let a = c .args in (omega arith, any-set-none (edge (a .own) (a .g) (a .xs .now) (a .from) (a .n)) 9)
 
-  not-covered : edges ≡ false → sameBox cell other ≡ true → around ≡ false → false ≡ ringMarks own other cell xs from n
-  unfolding ringMarks
-  not-covered p q r = rw (p, q, r) refl
+ring-edge-requires : tie.Need-ring-edge-requires Inv-loop μ-loop
+ring-edge-requires c κs = (c .before .before .pre .1, c .loop-test .taken)
 
-  by-centre : edges ≡ false → sameBox cell other ≡ true → around ≡ true → encloses other xs from n ≡ ringMarks own other cell xs from n
-  unfolding ringMarks
-  by-centre p q r = rw (p, q, r) refl
+edge-marks-requires : tie.Need-edge-marks-requires Inv-loop μ-loop
+edge-marks-requires c κs =
+    let s = c .before .before .before in
+    (s .pre .0, rw (c .ring-edge .ensures) (edge-in-places (s .pre .1) (c .before .loop-test .taken)))
 
-edges-mark-requires : tie.Need-edges-mark-requires
-edges-mark-requires c κs = c .pre .1
+add-k : tie.Need-add-k Inv-loop μ-loop
+add-k c = search needs
 
-returns : tie.Need-returns
+loop-less : tie.Need-loop-less Inv-loop μ-loop
+loop-less c = search needs
+
+loop-again : tie.Need-loop-again Inv-loop μ-loop
+loop-again c =
+    let l = c .before .before .before in
+    let a = l .before .args in
+    let turn = c .edge-marks .ensures ∙ ap (λ (e : Edge). setOf (λ d. marks (a .own) (cellIn (a .g) (d / 3) (d % 3)) e) 9) (c .before .ring-edge .ensures) in
+    (omega arith, (λ i. bitOr (l .loop .inv .1 i) (turn i)) ∙ any-set-more (edge (a .own) (a .g) (a .xs .now) (a .from) (a .n)) 9 (l .loop .k))
+
+returns : tie.Need-returns Inv-loop μ-loop
 returns c =
+    let l = c .before .loop in
     let a = c .before .before .args in
-    by-edge (a .own) (a .other) (a .cell) (a .xs .now) (a .from) (a .n) (sym (c .before .edges-mark .ensures) ∙ c .if1 .taken)
-
-same-box-requires : tie.Need-same-box-requires
-same-box-requires c κs = search needs
-
-returns-2 : tie.Need-returns-2
-returns-2 c =
-    let e = c .before .before in
-    let a = e .before .before .args in
-    other-cell (a .own) (a .other) (a .cell) (a .xs .now) (a .from) (a .n) (sym (e .before .edges-mark .ensures) ∙ e .if1 .left) (sym (c .before .same-box .ensures) ∙ not-true (c .before .same-box .result) (c .if2 .taken))
-
-stretch-box-requires : tie.Need-stretch-box-requires
-stretch-box-requires c κs = let p = c .before .before .before .before .pre in (p .1, p .2)
-
-covers-box-requires : tie.Need-covers-box-requires
-covers-box-requires c κs = search needs
-
-returns-3 : tie.Need-returns-3
-returns-3 c =
-    let d = c .before .before .before in
-    let e = d .before .before in
-    let a = e .before .before .args in
-    not-covered (a .own) (a .other) (a .cell) (a .xs .now) (a .from) (a .n) (sym (e .before .edges-mark .ensures) ∙ e .if1 .left) (sym (d .before .same-box .ensures) ∙ not-false (d .before .same-box .result) (d .if2 .left))
-    (sym (c .before .covers-box .ensures ∙ ap (λ (k : Box). covers k (a .other)) (c .before .before .stretch-box .ensures)) ∙ not-true (c .before .covers-box .result) (c .if3 .taken))
-
-ring-encloses-requires : tie.Need-ring-encloses-requires
-ring-encloses-requires c κs = let p = c .before .before .before .before .before .before .before .pre in (p .0, p .1)
-
-returns-4 : tie.Need-returns-4
-returns-4 c =
-    let f = c .before in
-    let d = f .before .before .before in
-    let e = d .before .before in
-    let a = e .before .before .args in
-    c .ring-encloses .ensures
-    ∙ by-centre (a .own) (a .other) (a .cell) (a .xs .now) (a .from) (a .n) (sym (e .before .edges-mark .ensures) ∙ e .if1 .left) (sym (d .before .same-box .ensures) ∙ not-false (d .before .same-box .result) (d .if2 .left))
-    (sym (f .before .covers-box .ensures ∙ ap (λ (k : Box). covers k (a .other)) (f .before .before .stretch-box .ensures)) ∙ not-false (f .before .covers-box .result) (f .if3 .left))
+    let e : l .k ≡ a .n = omega arith in
+    l .inv .1 ∙ ap (λ (k : ℕ). anySet (edge (a .own) (a .g) (a .xs .now) (a .from) (a .n)) k 9) e
 
 pub ring-marks-spec : {M : Type 1} → statement M
 ring-marks-spec =
     tie.close
     (tie.spec
-    edges-mark-requires
-    returns
-    same-box-requires
-    returns-2
-    stretch-box-requires
-    covers-box-requires
-    returns-3
-    ring-encloses-requires
-    returns-4)
+    Inv-loop
+    μ-loop
+    loop-holds
+    ring-edge-requires
+    edge-marks-requires
+    add-k
+    loop-less
+    loop-again
+    returns)
