@@ -11,6 +11,7 @@ use Rattle.region.proofs.Keeps.{keeps-fewer}
 use Rattle.region.proofs.Check.{accepted-means}
 use Rattle.relation.specs.Relation.{regionBox}
 use Rattle.drawn.specs.Drawn.{refusedWith, orRefused, drawnFor, drawnOf}
+use Rattle.drawn.proofs.Accepted.{accepted-drawn}
 use Rattle.drawn.proofs.drawn_of.Statement.{statement}
 use Rattle.drawn.proofs.drawn_of.Tie as tie
 
@@ -28,10 +29,6 @@ module _ (first second : Region) where
     second-refused e f =
         ap (λ (k : Checked). orRefused k 2 (refusedWith 0 0 0)) f
         ∙ sym (λ i. orRefused (accepted i) 1 (orRefused ((sym e ∙ f) i) 2 (drawnFor (regionBox first) (regionBox second) first second)))
-
-    both-accepted : checkOf second ≡ Accepted → drawnFor (regionBox first) (regionBox second) first second ≡ drawnOf first second
-    unfolding drawnOf
-    both-accepted f = sym (λ i. orRefused (accepted i) 1 (orRefused (f i) 2 (drawnFor (regionBox first) (regionBox second) first second)))
 
 four : {R : Region} → checkOf R ≡ Accepted → Keeps 4 R
 four e = keeps-fewer (omega arith) (accepted-means _ .0 e)
@@ -91,7 +88,7 @@ returns-3 : tie.Need-returns-3
 returns-3 c =
     let q = c .before .before .before .before in
     let s = q .before .before .before .before .before in
-    c .matrix-drawn .ensures ∙ both-accepted (one s) (two s) (first-accepted q) (second-accepted (c .before))
+    c .matrix-drawn .ensures ∙ accepted-drawn (one s) (two s) (first-accepted q) (second-accepted (c .before))
 
 pub drawn-of-spec : {M : Type 1} → statement M
 drawn-of-spec =
