@@ -4,10 +4,12 @@
 
 use std::collections::BTreeSet;
 
+use crate::check::check;
 use crate::fraction::Fraction;
 use crate::matrix::{Cells, Matrix};
+use crate::pair::PairRefusal;
 use crate::plane::{Bounds, Edge, Span};
-use crate::region::{Region, Ring};
+use crate::region::{Outline, Region, Ring};
 use crate::relation::encloses;
 
 /// The lines of both boxes along one axis, each once, from the lower end.
@@ -56,6 +58,38 @@ fn counts_past(own: Span, place: i32, right_is_past: bool) -> bool {
         line if line == own.high => false,
         _ => right_is_past,
     }
+}
+
+/// How many numbers the answer of the call has.
+pub const NUMBERS: usize = 14;
+
+/// The call: refused as the pair call is, region 1 wholly first.
+pub fn drawn_pair(first: &Outline, second: &Outline) -> Result<Matrix, PairRefusal> {
+    let in_region = |region| move |broken| PairRefusal { broken, region };
+    let first = check(first).map_err(in_region(1))?;
+    let second = check(second).map_err(in_region(2))?;
+    Ok(drawn(&first, &second))
+}
+
+/// Number, region, ring, rows, columns and nine cells by row; all but the first
+/// three are 0 beside a refusal.
+pub fn numbers(answer: &Result<Matrix, PairRefusal>) -> [u16; NUMBERS] {
+    let mut numbers = [0; NUMBERS];
+    match answer {
+        Err(refusal) => {
+            numbers[0] = refusal.broken.rule.number();
+            numbers[1] = refusal.region;
+            numbers[2] = refusal.broken.ring as u16;
+        }
+        Ok(matrix) => {
+            numbers[3] = matrix.rows as u16;
+            numbers[4] = matrix.columns as u16;
+            for (number, &cell) in numbers[5..].iter_mut().zip(matrix.cells.iter().flatten()) {
+                *number = cell.into();
+            }
+        }
+    }
+    numbers
 }
 
 /// The drawn matrix of two regions with width and height.

@@ -1,9 +1,11 @@
 //! The listing program's text. Document 01, the end of "Outlines to try, with
-//! what they give".
+//! what they give"; document 02, L2: it "runs both and prints `differ` after a
+//! pair where they do not agree".
 
 use std::fmt::Write;
 
 use crate::card;
+use crate::drawn::drawn;
 use crate::pair::compare;
 use crate::sheet::Standing;
 use crate::tile::{directions_text, relation_text};
@@ -27,8 +29,15 @@ fn lines(parcels: &Standing) -> String {
             let tiles = relation_text(comparison.first_to_second);
             let directions = directions_text(comparison.directions);
             let pieces = comparison.pieces_of_first;
-            writeln!(text, "{primary} {reference} {tiles} {directions} {pieces}")
-                .expect("a text takes any line");
+            let end = match drawn(first, second) == comparison.matrix {
+                true => "",
+                false => " differ",
+            };
+            writeln!(
+                text,
+                "{primary} {reference} {tiles} {directions} {pieces}{end}"
+            )
+            .expect("a text takes any line");
         }
     }
     text

@@ -14,7 +14,7 @@ use independent::listing::listing;
 use independent::make::{self, Kind};
 
 const USAGE: &str =
-    "usage: independent desk | list | make pairs|sheets|cards|matrices|short N SEED | spoil | cards N SEED DIR";
+    "usage: independent desk | list | make pairs|drawn|sheets|cards|matrices|short N SEED | spoil | cards N SEED DIR";
 
 /// What is asked for on the command line.
 enum Command {
@@ -97,6 +97,7 @@ fn parse(words: &[OsString]) -> Result<Command, String> {
 fn parse_kind(word: &OsString) -> Result<Kind, String> {
     match word.to_str() {
         Some("pairs") => Ok(Kind::Pairs),
+        Some("drawn") => Ok(Kind::Drawn),
         Some("sheets") => Ok(Kind::Sheets),
         Some("cards") => Ok(Kind::Cards),
         Some("matrices") => Ok(Kind::Matrices),

@@ -1,3 +1,4 @@
+pub mod Differ
 pub mod PairLines
 pub mod Meaning
 pub mod Only

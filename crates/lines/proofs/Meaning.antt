@@ -50,10 +50,11 @@ use Rattle.card.proofs.Numbers.{not-good-means}
 use Rattle.io.specs.Digits.{glyph, digits}
 use Rattle.names.specs.Names.{nameOf, namesOf, B, O}
 use Rattle.names.specs.Numbers.{space, decimal}
-use Rattle.lines.specs.Listing.{lineFeed, parcelsWord, refusedWord, pairLine, lineOf, listing}
+use Rattle.lines.specs.Listing.{lineFeed, parcelsWord, refusedWord, lastWords, pairLine, lineOf, listing}
 use Rattle.names.specs.Fields.{Starts, between, setBits, StandsIn}
 use Rattle.names.proofs.NameWords.{set-bits-mean, set-bits-rise, names-are, names-start, some-bit}
 use Rattle.names.proofs.NameFields.{tile-named, direction-named}
+use Rattle.lines.proofs.Differ.{never-differs}
 use Rattle.lines.proofs.PairLines.{line-some, refused}
 use Rattle.lines.proofs.list.Reads as list-reads
 
@@ -117,6 +118,8 @@ module _ (card : List ℕ) (good : GoodCard card) (j k : ℕ) (hj : j < parcelCo
   unfolding pairLine pairIn
   line-is =
       line-some card j k other
+      ∙ ap (λ (t : Bool). decimal (slotAt card j) ++ (space ∷ (decimal (slotAt card k) ++ (space ∷ (namesOf B (answer .first) ++ (space
+      ∷ (namesOf O (answer .directions) ++ (space ∷ lastWords (answer .«first_pieces») t)))))))) (never-differs card j k)
       ∙ ap (λ (w : List ℕ). decimal (slotAt card j) ++ (space ∷ (decimal (slotAt card k) ++ (space ∷ (w ++ (space
       ∷ (namesOf O (answer .directions) ++ (space ∷ (decimal (answer .«first_pieces») ++ (lineFeed ∷ [])))))))))) (names-are B (answer .first))
       ∙ ap (λ (w : List ℕ). decimal (slotAt card j) ++ (space ∷ (decimal (slotAt card k) ++ (space ∷ (between (map (nameOf B) tiles) ++ (space

@@ -1,2 +1,3 @@
+pub mod Differ
 pub mod Listing
 pub mod Steps

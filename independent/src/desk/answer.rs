@@ -2,6 +2,7 @@
 
 use super::request::{Poke, Request, ROOM};
 use crate::card;
+use crate::drawn;
 use crate::hex;
 use crate::host;
 use crate::matrix;
@@ -36,6 +37,10 @@ impl Desk {
     pub fn answer(&mut self, request: Request) -> String {
         match request {
             Request::Pair(first, second) => pair_answer(&pair::pair(&first, &second)),
+            Request::Drawn(first, second) => {
+                let answer = drawn::drawn_pair(&first, &second);
+                spaced(drawn::numbers(&answer).into_iter())
+            }
             Request::Put(slot, outline) => number(&self.sheet().put(slot, &outline)).to_string(),
             Request::Remove(slot) => number(&self.sheet().remove(slot)).to_string(),
             Request::Clear => number(&self.sheet().clear()).to_string(),

@@ -23,6 +23,7 @@ const LONGEST_REPORT_BUFFER: usize = 100;
 #[derive(Debug, PartialEq, Eq)]
 pub enum Request {
     Pair(Outline, Outline),
+    Drawn(Outline, Outline),
     Put(u16, Outline),
     Remove(u16),
     Clear,
@@ -51,6 +52,7 @@ pub fn parse(line: &[u8]) -> Option<Request> {
     let mut words = Words::of(line);
     let request = match words.next()? {
         b"pair" => Request::Pair(words.outline()?, words.outline()?),
+        b"drawn" => Request::Drawn(words.outline()?, words.outline()?),
         b"put" => Request::Put(words.number()?, words.outline()?),
         b"remove" => Request::Remove(words.number()?),
         b"clear" => Request::Clear,

@@ -4,6 +4,7 @@
 //! an independent program").
 
 pub mod cards;
+mod drawn;
 pub mod faults;
 mod matrices;
 pub mod pairs;
@@ -24,6 +25,8 @@ use random::Random;
 pub enum Kind {
     /// Requests for the pair call.
     Pairs,
+    /// Requests for the drawn matrix.
+    Drawn,
     /// Runs of calls on a sheet.
     Sheets,
     /// Cards, each with requests about it.
@@ -40,6 +43,7 @@ pub fn batch(kind: Kind, items: u64, seed: u64, output: &mut impl Write) -> io::
         let mut random = Random::for_item(seed, item);
         let lines = match kind {
             Kind::Pairs => vec![pairs::request(&mut random)],
+            Kind::Drawn => vec![drawn::request(&mut random)],
             Kind::Sheets => sheets::run(&mut random),
             Kind::Cards => cards::requests(&mut random),
             Kind::Matrices => vec![matrices::request(&mut random)],

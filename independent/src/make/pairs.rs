@@ -85,7 +85,7 @@ fn step_over_end(random: &mut Random, rings: &mut Rings) {
 }
 
 /// A region and four rectangles round it, either way.
-fn framed(random: &mut Random) -> (Outline, Outline) {
+pub fn framed(random: &mut Random) -> (Outline, Outline) {
     let inner = regions::small_region(random);
     let frame = regions::frame(random, &inner);
     either_way(random, &frame, &inner)
@@ -100,7 +100,7 @@ fn sawn(random: &mut Random) -> (Outline, Outline) {
     either_way(random, &saw, &rectangle)
 }
 
-fn either_way(random: &mut Random, one: &Rings, other: &Rings) -> (Outline, Outline) {
+pub fn either_way(random: &mut Random, one: &Rings, other: &Rings) -> (Outline, Outline) {
     let (one, other) = (regions::outline(one), regions::outline(other));
     if random.percent(50) {
         (one, other)
@@ -126,7 +126,7 @@ fn limit_outline(random: &mut Random) -> Outline {
 }
 
 /// A broken outline in region 1, in region 2 or in both.
-fn faulty(random: &mut Random) -> (Outline, Outline) {
+pub fn faulty(random: &mut Random) -> (Outline, Outline) {
     let rule = random.between(1, 7) as u16;
     let broken = outline_breaking(random, rule);
     let other_rule = random.between(1, 7) as u16;

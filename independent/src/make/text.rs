@@ -7,6 +7,10 @@ pub fn pair_request(first: &Outline, second: &Outline) -> String {
     format!("pair {} {}", outline(first), outline(second))
 }
 
+pub fn drawn_request(first: &Outline, second: &Outline) -> String {
+    format!("drawn {} {}", outline(first), outline(second))
+}
+
 pub fn put_request(slot: u16, parcel: &Outline) -> String {
     format!("put {slot} {}", outline(parcel))
 }

@@ -72,6 +72,15 @@ fn every_request_has_its_line() {
         ("cell 3 32", "8 0"),
         ("row 1", "0"),
         ("row 0", "32 16 0 0 216 0 0 0 0 0 0 0 0 0 0 0 0 0 0 0 0 0 0 0 0 0 0 0 0 0 0 0 0"),
+        (
+            "drawn 1 4 8 0 0 0 10 10 10 10 0 1 4 8 5 5 5 25 25 25 25 5",
+            "0 0 0 3 3 0 2 2 1 3 2 1 1 0",
+        ),
+        (
+            "drawn 1 4 8 0 0 0 10 10 10 10 0 1 2 4 0 0 1 1",
+            "2 2 0 0 0 0 0 0 0 0 0 0 0 0",
+        ),
+        ("drawn 1 4 8 0 0 0 10 10 10 10 0", "?"),
         ("tiles 216", "4"),
         ("tiles 65535", "9"),
         ("remove 0", "0"),
@@ -155,7 +164,7 @@ fn any_bytes_get_one_answer_a_line() {
 #[test]
 fn requests_with_bytes_changed_get_one_answer_a_line() {
     let mut random = Random::new(52);
-    for kind in [Kind::Pairs, Kind::Sheets, Kind::Cards] {
+    for kind in [Kind::Pairs, Kind::Drawn, Kind::Sheets, Kind::Cards] {
         let mut input = made(kind, 20, 53);
         for _ in 0..input.len() / 100 {
             let place = random.below(input.len());
@@ -193,7 +202,7 @@ fn numbers_given_to(words: &[&str], requests: &[u8]) -> BTreeSet<u16> {
 
 #[test]
 fn batches_depend_on_their_seed_alone() {
-    for kind in [Kind::Pairs, Kind::Sheets, Kind::Cards] {
+    for kind in [Kind::Pairs, Kind::Drawn, Kind::Sheets, Kind::Cards] {
         assert_eq!(made(kind, 30, 5), made(kind, 30, 5));
         assert_ne!(made(kind, 30, 5), made(kind, 30, 6));
         let (few, many) = (made(kind, 10, 5), made(kind, 30, 5));
@@ -244,6 +253,41 @@ fn a_batch_of_pairs_has_every_number() {
             );
         }
     }
+}
+
+/// The numbers of an answer.
+fn numbers_of(answer: &str) -> Vec<u16> {
+    let number = |word: &str| word.parse().expect("an answer of numbers");
+    answer.split(' ').map(number).collect()
+}
+
+#[test]
+fn a_batch_of_drawn_pairs_has_every_refusal_and_agrees_with_the_pair_call() {
+    let batch = made(Kind::Drawn, 4_000, 1);
+    let text = String::from_utf8(batch).expect("requests are plain text");
+    let as_pairs = text.replace("drawn ", "pair ");
+    let (mut refused, mut sizes, mut shared) = (BTreeSet::new(), BTreeSet::new(), 0);
+    let answers = ask(text.as_bytes()).into_iter();
+    for (drawn, pair) in answers.zip(ask(as_pairs.as_bytes())) {
+        if drawn.split(' ').count() == 1 {
+            assert_eq!(drawn, pair, "a count of tiles");
+            continue;
+        }
+        let (drawn, pair) = (numbers_of(&drawn), numbers_of(&pair));
+        assert_eq!(drawn.len(), 14);
+        assert_eq!(drawn[..3], pair[..3]);
+        assert_eq!(drawn[3..], pair[5..16]);
+        if drawn[0] > 0 {
+            refused.insert((drawn[0], drawn[1]));
+        } else {
+            sizes.insert((drawn[3], drawn[4]));
+            shared += usize::from(drawn[3] < 3 || drawn[4] < 3);
+        }
+    }
+    let all: BTreeSet<_> = (1..=7).flat_map(|n| [(n, 1), (n, 2)]).collect();
+    assert_eq!(refused, all);
+    assert_eq!(sizes.len(), 9, "grids of every size");
+    assert!(shared > 1_500, "{shared} pairs share a line");
 }
 
 #[test]

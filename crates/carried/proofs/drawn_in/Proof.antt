@@ -142,9 +142,10 @@ matrix-drawn-requires c κs =
     let n = c .before .before .before .before .before .before .before .before .before in
     let m = first-part (ends2 n) in
     let s = begin (ends m) in
-    let good = good-means (card s) .0 (s .pre .0) in
-    (rw (first-are m, first-ends-are (ends m)) (keeps-fewer (omega arith) (good .parcels-keep (s .args .j) (s .pre .1))),
-    rw (second-are n, second-ends-are (ends2 n)) (keeps-fewer (omega arith) (good .parcels-keep (s .args .k) (s .pre .2))))
+    let good = good-means (card s) .0 (s .pre .0) in (
+      rw (first-are m, first-ends-are (ends m)) (keeps-fewer (omega arith) (good .parcels-keep (s .args .j) (s .pre .1))),
+      rw (second-are n, second-ends-are (ends2 n)) (keeps-fewer (omega arith) (good .parcels-keep (s .args .k) (s .pre .2))),
+    )
 
 returns : tie.Need-returns
 unfolding drawnIn

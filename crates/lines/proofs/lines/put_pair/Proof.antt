@@ -9,20 +9,16 @@ use Rattle.names.proofs.Putting.{put-none, put-as}
 use Rattle.lines.proofs.PairLines.{line-none, line-some}
 use Rattle.lines.proofs.lines.put_pair.Statement.{statement}
 use Rattle.lines.proofs.lines.put_pair.Tie as tie
-use Rattle.lines.proofs.lines.put_pair.Reads as reads
-use Rattle.lines.proofs.lines.put_pair.Lts as lts
-use Rattle.card.proofs.slot_at.Reads as slot-at-reads
-use Rattle.carried.proofs.pair_in.Reads as pair-in-reads
-use Rattle.lines.proofs.lines.put_line.Reads as put-line-reads
 
 -- the line that is put
 line : (c : tie.After-slot-at2)
-    → let a = c .before .before .before .before .before .before .before .args in
-    pairLine (c .before .slot-at .result) (c .slot-at2 .result) (c .before .before .before .pair-in .result) ≡ lineOf (a .card .now) (a .j) (a .k)
+    → let a = c .before .before .before .before .before .before .before .before .args in
+    pairLine (c .before .slot-at .result) (c .slot-at2 .result) (c .before .before .before .before .pair-in .result) (c .before .before .before .drawn-in .result) ≡ lineOf (a .card .now) (a .j) (a .k)
 line c =
-    let p = c .before .before .before in
+    let d = c .before .before .before in
+    let p = d .before in
     let a = p .before .before .before .before .args in
-    rw (c .before .slot-at .ensures, c .slot-at2 .ensures, p .pair-in .ensures) (sym (line-some (a .card .now) (a .j) (a .k) (p .before .if1 .left)))
+    rw (c .before .slot-at .ensures, c .slot-at2 .ensures, p .pair-in .ensures, d .drawn-in .ensures) (sym (line-some (a .card .now) (a .j) (a .k) (p .before .if1 .left)))
 
 returns : tie.Need-returns
 returns c = put-as (sym (line-none _ _ _ (c .if1 .taken))) (put-none _ _)
@@ -30,19 +26,22 @@ returns c = put-as (sym (line-none _ _ _ (c .if1 .taken))) (put-none _ _)
 pair-in-requires : tie.Need-pair-in-requires
 pair-in-requires c κs = search needs
 
+drawn-in-requires : tie.Need-drawn-in-requires
+drawn-in-requires c κs = search needs
+
 slot-at-requires : tie.Need-slot-at-requires
 slot-at-requires c κs =
-    let s = c .before .before .before .before .before in
+    let s = c .before .before .before .before .before .before in
     entry-there (s .args .card .now) (good-right (s .args .card .now) (good-means (s .args .card .now) .0 (s .pre .0)) .parcels .header) (s .args .j) (s .pre .1)
 
 slot-at-requires-2 : tie.Need-slot-at-requires-2
 slot-at-requires-2 c κs =
-    let s = c .before .before .before .before .before .before in
+    let s = c .before .before .before .before .before .before .before in
     entry-there (s .args .card .now) (good-right (s .args .card .now) (good-means (s .args .card .now) .0 (s .pre .0)) .parcels .header) (s .args .k) (s .pre .2)
 
 put-line-requires : tie.Need-put-line-requires
 put-line-requires c κs =
-    let s = c .before .before .before .before .before .before .before in
+    let s = c .before .before .before .before .before .before .before .before in
     omega (arith, s .pre .3, ap length (line c))
 
 same-length : tie.Need-same-length
@@ -59,6 +58,7 @@ put-pair-spec =
     (tie.spec
     returns
     pair-in-requires
+    drawn-in-requires
     slot-at-requires
     slot-at-requires-2
     put-line-requires
