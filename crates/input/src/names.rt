@@ -1,6 +1,8 @@
 // The words that requests begin with, as `words::read_name` reads them: their letters, a as 1 to z as 26, each five binary digits.
 pub const PAIR: u64 = 0b10000_00001_01001_10010;
 
+pub const DRAWN: u64 = 0b00100_10010_00001_10111_01110;
+
 pub const TILES: u64 = 0b10100_01001_01100_00101_10011;
 
 pub const DIRECTIONS: u64 = 0b00100_01001_10010_00101_00011_10100_01001_01111_01110_10011;

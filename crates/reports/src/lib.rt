@@ -1,4 +1,4 @@
-// The requests on two outlines, on a matrix and on a card, which are answered with numbers of a report and need no sheet: pair, directions, host.
+// The requests on two outlines, on a matrix and on a card, which are answered with numbers of a report and need no sheet: pair, drawn, directions, host.
 mod matrices;
 mod pairs;
 
@@ -7,6 +7,7 @@ use answers::Reply;
 use answers::fronts;
 use input::cards;
 pub use matrices::directions_reply;
+pub use pairs::drawn_reply;
 pub use pairs::pair_reply;
 use words::Bytes;
 use words::Natural;
