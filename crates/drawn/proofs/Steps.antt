@@ -13,7 +13,7 @@ use lib.ListN.{length, getD}
 use Rattle.plane.specs.Choice.{pick}
 use Rattle.plane.specs.Folds.{anyTo}
 use Rattle.plane.specs.Lists.{tab}
-use Rattle.plane.specs.TileSet.{one-if, setOf, bit}
+use Rattle.plane.specs.TileSet.{one-if, setOf}
 use Rattle.plane.specs.declared.Box.{Box}
 use Rattle.plane.specs.declared.Edge.{Edge}
 use Rattle.plane.proofs.Lists.{tab-same}
@@ -27,7 +27,7 @@ use Rattle.matrix.specs.declared.GridLines.{GridLines}
 use Rattle.matrix.specs.Holding.{rowCount, columnCount}
 use Rattle.matrix.specs.Kept.{gridOf, cellIn}
 use Rattle.drawing.specs.declared.Stay.{Stay}
-use Rattle.drawing.specs.Stays.{stayUp, stayDown, counted, stayOf, acrossStay, upStay, overlaps, marks}
+use Rattle.drawing.specs.Stays.{stayUp, stayDown, counted, stayOf, overlaps, marks}
 use Rattle.drawing.specs.Drawing.{sameBox, ringMarks, regionMarks, drawnValue, drawnCells}
 use Rattle.drawn.specs.declared.Marked.{Marked}
 use Rattle.drawn.specs.Steps.{rowStay, rowSet, edgesMark, ringCentre, regionCentre, markedBy, isMarked, valueBy}

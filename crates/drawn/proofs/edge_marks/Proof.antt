@@ -1,5 +1,5 @@
-use mathlib.Core.Path.{_≡_, refl, sym, _∙_, ap}
-use mathlib.Core.Bool.{Bool, true, false}
+use mathlib.Core.Path.{_≡_, sym, _∙_}
+use mathlib.Core.Bool.{Bool}
 use Rattle.drawing.proofs.Marks.{stay-fits}
 use Rattle.drawing.specs.Stays.{StayFits, stayOf}
 use Rattle.drawing.specs.declared.Stay.{Stay}

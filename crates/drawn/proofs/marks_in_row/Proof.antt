@@ -1,4 +1,4 @@
-use mathlib.Core.Path.{_≡_, _∙_, ap}
+use mathlib.Core.Path.{_∙_, ap}
 use native.Mathlib.Omega.{arith}
 use Rattle.drawing.specs.declared.Stay.{Stay}
 use Rattle.drawing.proofs.Marks.{stay-fits}

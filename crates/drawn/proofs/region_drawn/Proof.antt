@@ -1,4 +1,3 @@
-use mathlib.Core.Path.{_≡_}
 use borrow.Author.Needs.{needs}
 use Rattle.drawn.proofs.region_drawn.Statement.{statement}
 use Rattle.drawn.proofs.region_drawn.Tie as tie

@@ -1,4 +1,3 @@
-use mathlib.Core.Path.{_≡_}
 use native.Mathlib.Omega.{arith}
 use Rattle.drawn.proofs.weight.Statement.{statement}
 use Rattle.drawn.proofs.weight.Tie as tie

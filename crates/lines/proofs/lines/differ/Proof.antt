@@ -1,8 +1,5 @@
-use mathlib.Core.Path.{_≡_, refl, _∙_}
-use mathlib.Core.Bool.{Bool, true, false, not, _||_}
+use mathlib.Core.Path.{_∙_}
 use borrow.Author.Tests.{eq-eqb, ne-eqb}
-use Prim.Native.Nat.{ℕ}
-use lib.Dec.{eqb}
 use Rattle.lines.specs.Differ.{differ}
 use borrow.Author.Needs.{needs}
 use Rattle.lines.proofs.lines.differ.Statement.{statement}

@@ -3,7 +3,7 @@ use mathlib.Core.Bool.{Bool, true, false}
 use mathlib.Core.List.{List, [], _∷_, _++_, append-assoc}
 use Prim.Native.Nat.{ℕ, _+_, _≤_}
 use native.Mathlib.Omega.{arith}
-use lib.ListN.{length, length-append}
+use lib.ListN.{length}
 use Rattle.names.specs.Numbers.{space, decimal}
 use Rattle.names.proofs.Putting.{put-as, put-then, room-first, room-next}
 use Rattle.lines.specs.Listing.{lineFeed, lastWords}
