@@ -1,14 +1,16 @@
 -- No rule stands here: what the functions behind the drawn matrix compute. No promise hangs on these names: proofs/ shows that the steps together
 -- are the definitions of drawing/specs/Drawing.
 --   rowStay g e above i    the stay of the edge e in row i of the grid;  rowSet up west middle east  the three cells of a row as a set
+--   near a b lo hi         an axis from a to b comes near the lines lo and hi;  nearRow, nearColumn g e  so the edge e does, to row i, to column j
+--   nearCell g e c         the edge comes near cell c by row
 --   edgesMark own k R      some edge of the region marks the cell
 --   ringCentre, regionCentre b    the ring, some ring of the region, covers the box b and encloses its centre
 --   markedBy own b g R     what the region marks in the grid g;  isMarked m k b c  so the cell k, which is cell c by row, is marked
 --   valueBy a b first second i j    the value of a cell for two regions that mark so
 use mathlib.Core.Bool.{Bool, _&&_, _||_}
 use mathlib.Core.List.{List}
-use Prim.Native.Nat.{ℕ, _+_, _-_, _*_, _/_, _%_}
-use lib.Dec.{ltb, eqb}
+use Prim.Native.Nat.{ℕ, _+_, _-_, _*_, _/_, _%_, min, max}
+use lib.Dec.{leb, ltb, eqb}
 use lib.ListN.{length, getD}
 use lib.IntN.{ℤ}
 use Rattle.plane.specs.Choice.{pick}
@@ -33,6 +35,18 @@ rowStay g e above i = stayOf (e .ay) (e .by) (getD (g .up) (g .rows - 1 - i) 0) 
 
 unfoldable pub rowSet : (up west middle east : Stay) → ℕ
 rowSet up west middle east = one-if (overlaps west up) * 1 + one-if (overlaps middle up) * 2 + one-if (overlaps east up) * 4
+
+unfoldable pub near : (a b lo hi : ℕ) → Bool
+near a b lo hi = leb (min a b) hi && leb lo (max a b)
+
+unfoldable pub nearRow : GridLines → Edge → ℕ → Bool
+nearRow g e i = ltb i (g .rows) && near (e .ay) (e .by) (getD (g .up) (g .rows - 1 - i) 0) (getD (g .up) (g .rows - i) 0)
+
+unfoldable pub nearColumn : GridLines → Edge → ℕ → Bool
+nearColumn g e j = near (e .ax) (e .bx) (getD (g .across) j 0) (getD (g .across) (j + 1) 0)
+
+abbrev pub nearCell : GridLines → Edge → ℕ → Bool
+nearCell g e c = nearRow g e (c / 3) && nearColumn g e (c % 3)
 
 unfoldable pub edgesMark : (own k : Box) → Region → Bool
 edgesMark own k R =

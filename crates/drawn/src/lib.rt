@@ -2,10 +2,13 @@
 // goes through; at the end the centre clause. Plain on purpose: no tile and no relation is asked for.
 ghost use mathlib.Core.Path.{_≡_};
 ghost use Prim.Native.Nat.{_*_, _/_, _%_, _<_, _≤_};
+ghost use lib.Bits.{bitOr};
+ghost use lib.Dec.{eqb};
 ghost use Rattle.plane.specs.Placed.{BoxInPlaces, EdgeInPlaces};
 ghost use Rattle.plane.specs.Folds.{anyTo};
 ghost use Rattle.plane.specs.Lists.{tab};
-ghost use Rattle.plane.specs.TileSet.{one-if, setOf};
+ghost use Rattle.plane.specs.Choice.{pick};
+ghost use Rattle.plane.specs.TileSet.{one-if, setOf, bit};
 ghost use Rattle.ring.specs.Edges.{ringEdge};
 ghost use Rattle.ring.specs.Stretch.{Stretch};
 ghost use Rattle.region.specs.Region.{regionOf};
@@ -15,7 +18,7 @@ ghost use Rattle.matrix.specs.Kept.{gridOf, cellIn};
 ghost use Rattle.drawing.specs.Stays.{gap, stayUp, stayDown, counted, stayOf, overlaps, marks, StayFits};
 ghost use Rattle.drawing.specs.Drawing.{sameBox};
 ghost use Rattle.drawn.specs.Drawn.{refusedWith, orRefused, drawnFor, drawnOf};
-ghost use Rattle.drawn.specs.Steps.{rowStay, rowSet, edgesMark, ringCentre, regionCentre, markedBy, isMarked, valueBy};
+ghost use Rattle.drawn.specs.Steps.{rowStay, rowSet, near, nearRow, nearCell, edgesMark, ringCentre, regionCentre, markedBy, isMarked, valueBy};
 use drawing::Stay;
 use matrix::CELLS;
 use matrix::GridLines;
@@ -27,6 +30,7 @@ use outline::size_of;
 use outline::start_of;
 use plane::Box;
 use plane::Edge;
+use plane::greater;
 use plane::lesser;
 use region::Checked;
 use relation::region_box;
@@ -187,6 +191,59 @@ fn edge_marks(own: Box, g: GridLines, e: Edge) -> u16
     top + 8 * centre + 64 * bottom
 }
 
+// Does the edge, from a to b in this axis, come near the strip between the lines lo and hi? Only then can it be between them.
+fn near(a: u64, b: u64, lo: u64, hi: u64) -> bool
+    ensures { λ r. ⌜ r ≡ near a b lo hi ⌝ }
+{
+    if hi < lesser(a, b) {
+        return false;
+    }
+    lo <= greater(a, b)
+}
+
+// Of row i from the north the cells in the columns, if the edge comes near the row.
+fn near_in_row(g: GridLines, e: Edge, i: usize, columns: u16) -> u16
+    requires { ⌜ g .rows ≤ 3 ⌝ }
+    ensures { λ r. ⌜ (r ≡ pick (nearRow g e i) columns 0) × (r ≤ columns) ⌝ }
+{
+    let rows = g.rows as usize;
+    if rows <= i {
+        return 0;
+    }
+    let lines = g.up;
+    if near(e.ay, e.by, lines[rows - 1 - i], lines[rows - i]) {
+        return columns;
+    }
+    0
+}
+
+// The cells near the edge.
+fn near_cells(g: GridLines, e: Edge) -> u16
+    requires { ⌜ g .rows ≤ 3 ⌝ }
+    ensures { λ r. ⌜ r ≡ setOf (nearCell g e) 9 ⌝ }
+{
+    let lines = g.across;
+    let west = weight(near(e.ax, e.bx, lines[0], lines[1]), 1);
+    let middle = weight(near(e.ax, e.bx, lines[1], lines[2]), 2);
+    let east = weight(near(e.ax, e.bx, lines[2], lines[3]), 4);
+    let columns = west + middle + east;
+    let top = near_in_row(g, e, 0, columns);
+    let centre = near_in_row(g, e, 1, columns);
+    let bottom = near_in_row(g, e, 2, columns);
+    top + 8 * centre + 64 * bottom
+}
+
+// The marks with those of one edge more. Where all cells near the edge are marked already, it is not looked at.
+fn with_edge(set: u16, own: Box, g: GridLines, e: Edge) -> u16
+    requires { ⌜ (g .rows ≤ 3) × EdgeInPlaces e × (set ≡ setOf (λ c. eqb (bit set c) 1) 9) ⌝ }
+    ensures { λ r. ⌜ r ≡ bitOr set (setOf (λ c. marks own (cellIn g (c / 3) (c % 3)) e) 9) ⌝ }
+{
+    if set | near_cells(g, e) == set {
+        return set;
+    }
+    set | edge_marks(own, g, e)
+}
+
 fn ring_marks(own: Box, g: GridLines, xs: &[i32], from: usize, n: usize) -> u16
     requires { ⌜ (g .rows ≤ 3) × Stretch (now xs) from n ⌝ }
     ensures { λ r. ⌜ r ≡ setOf (λ c. anyTo (λ i. marks own (cellIn g (c / 3) (c % 3)) (ringEdge (now (xs .entry)) from n i)) n) 9 ⌝ }
@@ -194,7 +251,7 @@ fn ring_marks(own: Box, g: GridLines, xs: &[i32], from: usize, n: usize) -> u16
     let mut set: u16 = 0;
     let mut k: usize = 0;
     while k < n {
-        set = set | edge_marks(own, g, ring_edge(xs, from, n, k));
+        set = with_edge(set, own, g, ring_edge(xs, from, n, k));
         k += 1;
     }
     set

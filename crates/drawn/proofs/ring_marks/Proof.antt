@@ -15,6 +15,7 @@ use Rattle.ring.proofs.Stretch.{edge-in-places}
 use Rattle.matrix.specs.declared.GridLines.{GridLines}
 use Rattle.matrix.specs.Kept.{cellIn}
 use Rattle.drawing.specs.Stays.{marks}
+use Rattle.drawn.proofs.Steps.{nine}
 use borrow.Author.Needs.{needs}
 use Rattle.drawn.proofs.ring_marks.Statement.{statement}
 use Rattle.drawn.proofs.ring_marks.Tie as tie
@@ -34,10 +35,11 @@ loop-holds c = let a = c .args in (omega arith, any-set-none (edge (a .own) (a .
 ring-edge-requires : tie.Need-ring-edge-requires Inv-loop μ-loop
 ring-edge-requires c κs = (c .before .before .pre .1, c .loop-test .taken)
 
-edge-marks-requires : tie.Need-edge-marks-requires Inv-loop μ-loop
-edge-marks-requires c κs =
-    let s = c .before .before .before in
-    (s .pre .0, rw (c .ring-edge .ensures) (edge-in-places (s .pre .1) (c .before .loop-test .taken)))
+with-edge-requires : tie.Need-with-edge-requires Inv-loop μ-loop
+with-edge-requires c κs =
+    let l = c .before .before in
+    let s = l .before in
+    (s .pre .0, rw (c .ring-edge .ensures) (edge-in-places (s .pre .1) (c .before .loop-test .taken)), nine _ (l .loop .inv .1))
 
 add-k : tie.Need-add-k Inv-loop μ-loop
 add-k c = search needs
@@ -49,8 +51,8 @@ loop-again : tie.Need-loop-again Inv-loop μ-loop
 loop-again c =
     let l = c .before .before .before in
     let a = l .before .args in
-    let turn = c .edge-marks .ensures ∙ ap (λ (e : Edge). setOf (λ d. marks (a .own) (cellIn (a .g) (d / 3) (d % 3)) e) 9) (c .before .ring-edge .ensures) in
-    (omega arith, (λ i. bitOr (l .loop .inv .1 i) (turn i)) ∙ any-set-more (edge (a .own) (a .g) (a .xs .now) (a .from) (a .n)) 9 (l .loop .k))
+    let turn = ap (λ (e : Edge). setOf (λ d. marks (a .own) (cellIn (a .g) (d / 3) (d % 3)) e) 9) (c .before .ring-edge .ensures) in
+    (omega arith, c .with-edge .ensures ∙ (λ i. bitOr (l .loop .inv .1 i) (turn i)) ∙ any-set-more (edge (a .own) (a .g) (a .xs .now) (a .from) (a .n)) 9 (l .loop .k))
 
 returns : tie.Need-returns Inv-loop μ-loop
 returns c =
@@ -67,7 +69,7 @@ ring-marks-spec =
     μ-loop
     loop-holds
     ring-edge-requires
-    edge-marks-requires
+    with-edge-requires
     add-k
     loop-less
     loop-again
