@@ -119,8 +119,8 @@ static inline unsigned direction_word(const uint8_t *report, unsigned place)
  * with the memcpy and memset of the C library that rt's programs run with; another card may take more, up to the first number. Code and
  * constants: 24,470 bytes (readelf). The gate (.ci/run) takes all three again and holds them to the sizes above.
  *
- * Instructions: 5,698,258 on a card of 32 parcels, each a spiral that stands on its corner, the last one turned round: all are checked, and
- * then the card is refused with 7. 652,056 on a card of two such spirals, which is answered. Counted by valgrind's callgrind
+ * Instructions: 5,698,034 on a card of 32 parcels, each a spiral that stands on its corner, the last one turned round: all are checked, and
+ * then the card is refused with 7. 652,028 on a card of two such spirals, which is answered. Counted by valgrind's callgrind
  * (tools/host-instructions), memcpy and memset of glibc 2.36 included, over 2,298 cards: the 2,000 of `independent cards 2000 1`, the
  * examples, and those that tools/host-slow.c makes to be slow. What costs most is rule 6 on edges that lie near each other, so these have
  * parcels of 64 vertices whose edges nearly all do: spirals and zigzags at many angles, and small shapes beside one far vertex; in two of
