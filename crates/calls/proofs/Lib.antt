@@ -4,3 +4,4 @@ pub mod Readings
 pub mod Orders
 pub mod Says
 pub mod Layouts
+pub mod Several

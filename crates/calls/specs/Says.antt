@@ -6,13 +6,15 @@
 --   ClearSays s n            of a clearing: 0 or 11
 --   Readable records relations i j     the cell of slots i and j may be read
 --   ReadSays records relations i j n   of reading that cell: 0, 11, then 8, then 9
+--   SeveralSays records relations pairs results n    of a list of pairs at once: 0, 11, then 18, then 10
 use mathlib.Core.Path.{_≡_}
 use mathlib.Core.Logic.{_⊎_, _≢_}
 use mathlib.Core.List.{List}
-use Prim.Native.Nat.{ℕ, _≤_, _<_}
+use Prim.Native.Nat.{ℕ, _+_, _*_, _≤_, _<_}
+use lib.ListN.{length}
 use Rattle.region.specs.Region.{Region, nothing, outline}
 use Rattle.region.specs.Rules.{KeepsRules, RefusedWith}
-use Rattle.region.specs.Refusals.{number, slot-number, slot-empty, sheet-lists, sheet-damaged}
+use Rattle.region.specs.Refusals.{number, slot-number, slot-empty, buffer-short, sheet-lists, sheet-damaged, pairs-odd}
 use Rattle.layout.specs.Sheet.{Sheet, slots, RightLists, RightTables}
 use Rattle.layout.specs.Slots.{ringsIn, parcelAt}
 use Rattle.layout.specs.Damage.{Undamaged}
@@ -49,3 +51,9 @@ pub data ReadSays (records relations : List ℕ) (i j : ℕ) : ℕ → Type 0 wh
   read-lists : (RightTables records relations → ⊥) → ReadSays records relations i j (number sheet-lists)
   read-slot : RightTables records relations → (slots ≤ i) ⊎ (slots ≤ j) → ReadSays records relations i j (number slot-number)
   read-empty : RightTables records relations → i < slots → j < slots → (ringsIn records i ≡ 0) ⊎ (ringsIn records j ≡ 0) → ReadSays records relations i j (number slot-empty)
+
+pub data SeveralSays (records relations pairs results : List ℕ) : ℕ → Type 0 where
+  several-done : RightTables records relations → (n : ℕ) → length pairs ≡ 2 * n → n ≤ length results → SeveralSays records relations pairs results 0
+  several-lists : (RightTables records relations → ⊥) → SeveralSays records relations pairs results (number sheet-lists)
+  several-odd : RightTables records relations → (n : ℕ) → length pairs ≡ 2 * n + 1 → SeveralSays records relations pairs results (number pairs-odd)
+  several-short : RightTables records relations → (n : ℕ) → length pairs ≡ 2 * n → length results < n → SeveralSays records relations pairs results (number buffer-short)

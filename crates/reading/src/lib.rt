@@ -1,4 +1,4 @@
-// The readings of a sheet, which change nothing: a cell, a row, and how many tiles a relation has.
+// The readings of a sheet, which change nothing of it: a cell, a row, a list of pairs (`several`), and how many tiles a relation has.
 ghost use mathlib.Core.Path.{_≡_};
 ghost use Prim.Native.Nat.{_+_, _*_};
 ghost use denote.Ref.{ptr};
@@ -12,6 +12,8 @@ use storage::lists::wrong_tables;
 use storage::slots::is_empty;
 use storage::table::cell_in;
 use storage::table::row_in;
+
+pub mod several;
 
 // The number that refuses the reading of a cell, or 0.
 fn read_number(records: &[u16], relations: &[u16], primary: u16, reference: u16) -> u16

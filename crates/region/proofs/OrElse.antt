@@ -14,7 +14,7 @@ use native.Mathlib.Omega.{arith}
 use native.Mathlib.Decide.{ℕ-discrete}
 use borrow.Author.Count.{below-none, below-more}
 use Rattle.plane.proofs.Logic.{never}
-use Rattle.region.specs.Refusals.{Refusal, number, numberIf, orElse, firstNumber, ring-count, ring-length, list-size, coordinate-range, vertex-repeated, edges-meet, not-clockwise, slot-number, slot-empty, buffer-short, sheet-lists, sheet-damaged, withheld, card-header, card-parcels, card-vertices, not-two-parcels}
+use Rattle.region.specs.Refusals.{Refusal, number, numberIf, orElse, firstNumber, ring-count, ring-length, list-size, coordinate-range, vertex-repeated, edges-meet, not-clockwise, slot-number, slot-empty, buffer-short, sheet-lists, sheet-damaged, withheld, card-header, card-parcels, card-vertices, not-two-parcels, pairs-odd}
 
 pub or-else-first : (a b : ℕ) → a ≢ 0 → orElse a b ≡ a
 or-else-first zero b h = absurd (h refl)
@@ -45,6 +45,7 @@ number-some card-header e = omega arith
 number-some card-parcels e = omega arith
 number-some card-vertices e = omega arith
 number-some not-two-parcels e = omega arith
+number-some pairs-odd e = omega arith
 
 pub number-not-withheld : (k : Refusal) → number k ≢ withheld
 number-not-withheld ring-count e = omega arith
@@ -63,6 +64,7 @@ number-not-withheld card-header e = omega arith
 number-not-withheld card-parcels e = omega arith
 number-not-withheld card-vertices e = omega arith
 number-not-withheld not-two-parcels e = omega arith
+number-not-withheld pairs-odd e = omega arith
 
 pub number-if-none : (t : Bool) (k : Refusal) → (numberIf t k ≡ 0) ↔ (t ≡ false)
 number-if-none true k = (λ e. absurd (number-some k e), λ e. never (sym e))
