@@ -1,7 +1,7 @@
 /* Times the proved code beside plain C, both in one process, call for call on the same parcels, and compares what they answer.
    bench [ROUNDS]: a table on standard output; status 1 where an answer differs. With BEFORE another archive of the same calls, their
    names with before_ in front, is timed as a third side. With SEEN the archive also has trial_seen, the relation where both boxes are at
-   hand. */
+   hand; with CELLS trial_cell and trial_cells, a reading of a cell and of a list of pairs. */
 #define _POSIX_C_SOURCE 199309L
 #include "plain.h"
 #include "sets.h"
@@ -30,6 +30,11 @@ static const char *side_names[SIDES] = { "plain", "proved" };
 #ifdef SEEN /* eight places (coordinates plus 1,000,000): the other's west, south, east and north, then the region's own */
 uint32_t trial_seen(uint64_t, uint64_t, uint64_t, uint64_t, uint64_t, uint64_t, uint64_t, uint64_t, const int32_t *, size_t, const uint16_t *, size_t);
 #define PLACES(b) (uint64_t)((b).west + 1000000), (uint64_t)((b).south + 1000000), (uint64_t)((b).east + 1000000), (uint64_t)((b).north + 1000000)
+#endif
+
+#ifdef CELLS
+uint32_t trial_cell(const uint16_t *, size_t, const uint16_t *, size_t, uint32_t, uint32_t);
+uint32_t trial_cells(const uint16_t *, size_t, const uint16_t *, size_t, const uint16_t *, size_t, uint16_t *, size_t);
 #endif
 
 #define LIST(a) (a), sizeof(a) / sizeof *(a)
@@ -268,6 +273,33 @@ static void measure_growth(int rounds) {
                     times[2 * k + 1].plain / times[2 * i + 1].plain, times[2 * k + 1].proved / times[2 * i + 1].proved);
 }
 
+#ifdef CELLS
+/* ---- a list of pairs beside as many single readings, both of the proved code: every other pair of different slots, and some that are refused */
+#define PAIRS 512
+static uint16_t asked[2 * PAIRS], results[PAIRS];
+
+static uint32_t run_cells(int side) {
+    Sheet *s = &sheets[1];
+    uint32_t sum = 0;
+    if (side == 0)
+        for (size_t k = 0; k < PAIRS; k++)
+            results[k] = (uint16_t)trial_cell(LIST(s->records), LIST(s->relations), asked[2 * k], asked[2 * k + 1]);
+    if (side == 1) sum = trial_cells(LIST(s->records), LIST(s->relations), LIST(asked), LIST(results));
+    for (size_t k = 0; k < PAIRS; k++) sum = mix(sum, results[k]);
+    return sum;
+}
+
+/* On the sheet that the last set left. */
+static void measure_cells(int rounds) {
+    static Set none = { .name = "single, then a list" };
+    Times times[1];
+    for (size_t k = 0; k < 2 * PAIRS; k++) asked[k] = (uint16_t)(k * 2654435761u >> 16 & (k % 61 ? 31 : 63));
+    const Work work = { &none, "cells", run_cells, PAIRS, 2 };
+    measure(&work, 1, rounds, times);
+    printf("a list of %d pairs: %.1f ns a pair, read one by one %.1f ns a pair\n", PAIRS, times[0].proved, times[0].plain);
+}
+#endif
+
 /* ---- shapes that are hard for rule 6 */
 static void measure_hard_shapes(int rounds) {
     static Set sets[MOST_WORKS];
@@ -319,5 +351,8 @@ int main(int argc, char **argv) {
     for (size_t k = 0; k < SETS; k++) measure_set(k, rounds);
     measure_growth(rounds);
     measure_hard_shapes(rounds);
+#ifdef CELLS
+    measure_cells(rounds);
+#endif
     return differs;
 }

@@ -1,8 +1,8 @@
 //! The numbers of refusals. Document 01, the table in "Outlines that are
 //! accepted", without its row 13: request L10 of document 02 takes that out,
-//! and gives the number to nothing else.
+//! and gives the number to nothing else. From 18 on document 02 has them.
 
-/// Why a call is refused; each case has its number of the table.
+/// Why a call is refused; each case has its number.
 #[derive(Clone, Copy, Debug, PartialEq, Eq)]
 pub enum Refusal {
     RingCount = 1,
@@ -21,10 +21,11 @@ pub enum Refusal {
     CardEntries = 15,
     CardVertices = 16,
     NotTwoParcels = 17,
+    OddPairs = 18,
 }
 
 impl Refusal {
-    /// The number in the table.
+    /// The number that is answered.
     pub fn number(self) -> u16 {
         self as u16
     }

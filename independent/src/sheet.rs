@@ -137,6 +137,34 @@ pub fn cell(
     Ok(relations[cell_index(primary, reference)])
 }
 
+/// What is added to the number of a pair that is refused.
+const REFUSED: u16 = 1_000;
+
+/// Reads the cells of a list of pairs, primary and reference in turn, into a
+/// list of results: the relation, or 1000 plus the number. A pair that is
+/// refused is answered like any other. Document 02, L4.
+pub fn cells(
+    records: &[u16],
+    relations: &[u16],
+    pairs: &[u16],
+    results: &mut [u16],
+) -> Result<(), Refusal> {
+    check_reading_lengths(records, relations)?;
+    if pairs.len() % 2 != 0 {
+        return Err(Refusal::OddPairs);
+    }
+    if results.len() < pairs.len() / 2 {
+        return Err(Refusal::BufferTooShort);
+    }
+    for (pair, result) in pairs.chunks_exact(2).zip(results) {
+        *result = match cell(records, relations, pair[0], pair[1]) {
+            Ok(relation) => relation,
+            Err(refusal) => REFUSED + refusal.number(),
+        };
+    }
+    Ok(())
+}
+
 /// Hands out a slot's row as that part of the lent relations.
 pub fn row<'a>(records: &[u16], relations: &'a [u16], slot: u16) -> Result<&'a [u16], Refusal> {
     check_reading_lengths(records, relations)?;

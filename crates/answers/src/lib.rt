@@ -8,6 +8,9 @@ use words::SPACE;
 // What a buffer that is answered held before a call wrote into it.
 pub const BEFORE: u8 = 0xa5;
 
+// The same of a list of numbers.
+pub const BEFORE_NUMBER: u16 = 0xa5a5;
+
 const NO_BYTES: u8 = 45;
 
 // What a request comes to: an answer that is written up to this place, without its line feed; a number, two numbers or `ok` that is still

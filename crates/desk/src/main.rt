@@ -135,7 +135,7 @@ fn ask(
             relations,
             lent,
         ),
-        names::CELL | names::ROW | names::WRITE => kept::read(
+        names::CELL | names::CELLS | names::ROW | names::WRITE => kept::read(
             name,
             line,
             from,

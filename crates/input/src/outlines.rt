@@ -20,7 +20,7 @@ pub enum Numbers {
 
 // Reads an outline into the start of `xs` and `ends`, whose lengths are the most that it may have.
 pub fn read_outline(line: &[u8], from: usize, xs: &mut [i32], ends: &mut [u16]) -> Outline {
-    let read = read_ends(line, from, ends);
+    let read = read_list(line, from, ends);
     let Numbers::Are { count: rings, next } = read else {
         return Outline::Not;
     };
@@ -31,16 +31,17 @@ pub fn read_outline(line: &[u8], from: usize, xs: &mut [i32], ends: &mut [u16]) 
     Outline::Is { rings, size, next }
 }
 
-fn read_ends(line: &[u8], from: usize, ends: &mut [u16]) -> Numbers {
+// The count of numbers and the numbers, into the start of a list whose length is the most that there may be.
+pub fn read_list(line: &[u8], from: usize, list: &mut [u16]) -> Numbers {
     let number = words::read_natural(line, from);
     let Natural::Is { value, next } = number else {
         return Numbers::Not;
     };
     let count = value as usize;
-    if ends.len() < count {
+    if list.len() < count {
         return Numbers::Not;
     }
-    read_naturals(line, next, &mut ends[0..count])
+    read_naturals(line, next, &mut list[0..count])
 }
 
 fn read_coordinates(line: &[u8], from: usize, xs: &mut [i32]) -> Numbers {

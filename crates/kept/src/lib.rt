@@ -103,6 +103,7 @@ pub fn read(
     let relations = fronts::naturals(relations, lent[2]);
     match name {
         names::CELL => parcels::cell_reply(line, from, records, relations),
+        names::CELLS => parcels::cells_reply(line, from, out, at, records, relations),
         names::ROW => parcels::row_reply(line, from, out, at, records, relations),
         names::WRITE => cards::write_reply(line, from, out, at, xs, records, relations),
         _ => Reply::Bad,

@@ -1,9 +1,12 @@
-// The requests on the parcels of the sheet and on a relation: put, remove, clear, cell, row, tiles.
+// The requests on the parcels of the sheet and on a relation: put, remove, clear, cell, cells, row, tiles.
+use answers::BEFORE_NUMBER;
 use answers::Reply;
 use answers::fronts;
 use calls::Reading;
 use input::outlines;
+use input::outlines::Numbers;
 use input::outlines::Outline;
+use reading::several;
 use words::Natural;
 
 pub fn put_reply(
@@ -91,6 +94,46 @@ pub fn cell_reply(line: &[u8], from: usize, records: &[u16], relations: &[u16]) 
         Reading::Relation(relation) => Reply::Numbers(0, relation),
         Reading::Refused(number) => Reply::Numbers(number, 0),
     }
+}
+
+// The list of pairs, and how many results there are.
+pub fn cells_reply(
+    line: &[u8],
+    from: usize,
+    out: &mut [u8],
+    at: usize,
+    records: &[u16],
+    relations: &[u16],
+) -> Reply {
+    let mut pairs = [0u16; 1024];
+    let read = outlines::read_list(line, from, &mut pairs);
+    let Numbers::Are { count, next } = read else {
+        return Reply::Bad;
+    };
+    let number = words::read_last_natural(line, next);
+    let Natural::Is { value, next: _ } = number else {
+        return Reply::Bad;
+    };
+    let mut results = [BEFORE_NUMBER; 1024];
+    let size = value as usize;
+    if results.len() < size {
+        return Reply::Bad;
+    }
+    let pairs = fronts::naturals(&pairs, count);
+    put_cells(out, at, records, relations, pairs, &mut results[0..size])
+}
+
+fn put_cells(
+    out: &mut [u8],
+    at: usize,
+    records: &[u16],
+    relations: &[u16],
+    pairs: &[u16],
+    results: &mut [u16],
+) -> Reply {
+    let number = several::read_cells(records, relations, pairs, results);
+    let next = words::put_natural(out, at, number as u64);
+    Reply::Upto(answers::put_numbers(out, next, results))
 }
 
 pub fn row_reply(

@@ -1,4 +1,4 @@
--- What reading a cell and handing out a row answer after any run of the code, from their own contracts. The call is lent the records and the relations
+-- What reading a cell, handing out a row and a list of pairs answer after any run of the code, from their own contracts. The call is lent the records and the relations
 -- of the run's sheet (`lent`).
 --   reading-zero       a reading is not refused exactly when a parcel stands in each of the two slots
 --   reading-tile       for two parcels that stand in different slots: bit t of its value is 1 exactly when the rule finds the first in tile t of the
@@ -7,11 +7,14 @@
 --   row-length         the row of a standing parcel has a cell for each slot
 --   row-tile           its number k, where another parcel stands in slot k, by the rule;  row-self  its own, B;  row-empty  0 where nothing stands
 --   row-none           there is no row where nothing stands in the slot, or there is no such slot
+--   cells-zero         a list of pairs is not refused exactly when its length is even and there is a result for each pair
+--   cells-tile         result k, where parcels stand in the two slots of pair k, which are different, by the rule;  cells-self  of one slot: B
+--   cells-empty, cells-past    1009 where nothing stands in one of the two, 1008 where there is no such slot
 use mathlib.Core.Path.{_≡_, refl, sym, _∙_, ap}
 use mathlib.Core.Logic.{_↔_, _⊎_, _≢_, inl, inr, ⊎-elim}
 use mathlib.Core.Bool.{not}
 use mathlib.Core.List.{List, []}
-use Prim.Native.Nat.{ℕ, _≤_, _<_}
+use Prim.Native.Nat.{ℕ, _+_, _*_, _≤_, _<_}
 use native.Mathlib.Omega.{arith}
 use lib.ListN.{length, getD}
 use borrow.Author.Tests.{eqb-true, eqb-false}
@@ -27,10 +30,12 @@ use Rattle.layout.proofs.Standing.{stand-fewer, layout-empty}
 use Rattle.calls.specs.declared.Reading.{Reading}
 use Rattle.calls.specs.declared.Reading.the-variants.{Relation, Refused}
 use Rattle.calls.specs.Readings.{readingNumber, readingValue}
-use Rattle.calls.specs.Says.{Readable, ReadSays, read-done, read-lists, read-slot, read-empty}
+use Rattle.calls.specs.Several.{pairCount, primaryOf, referenceOf}
+use Rattle.calls.specs.Says.{Readable, ReadSays, read-done, read-lists, read-slot, read-empty, SeveralSays, several-done, several-lists, several-odd, several-short}
 use Rattle.reading.proofs.Call as call
 use Rattle.reading.proofs.read_cell.Reads as read-reads
 use Rattle.reading.proofs.row.Reads as row-reads
+use Rattle.reading.proofs.several.read_cells.Reads as several-reads
 use Rattle.runs.specs.Runs.{Call, afterRun, Stands, standing}
 use Rattle.runs.specs.Code.{Ran}
 use Rattle.runs.proofs.Runs.{standing-together, standing-means, stands-slot}
@@ -133,3 +138,55 @@ module _ {cs : List Call} {s : Sheet} (ran : Ran cs s) where
 
       pub row-tile : (k : ℕ) (Q : Region) → Stands cs k Q → slot ≢ k → (M : Lines) → RegionBox Q M → (t : ℕ) → t < 9 → (bit (getD (r .now) k 0) t ≡ 1) ↔ RegionHas M R t
       row-tile k Q second other M is t l = rw (row-is .1 k (stands-slot second)) (standing-tile cs slot k R first Q second other M is t l)
+
+  -- ---- a list of pairs
+  module _ (κs : _) (a : _) (n : ℕ) (e : _) (post : several-reads.Post κs a n e) (lent : (a .0 .now ≡ s .records) × (a .1 .0 .now ≡ s .relations)) where
+    abbrev pairs : List ℕ
+    pairs = a .1 .1 .0 .now
+
+    abbrev results : List ℕ
+    results = a .1 .1 .1 .0 .now
+
+    list-says : (m : ℕ) → (n ≡ m) ↔ SeveralSays (s .records) (s .relations) pairs results m
+    list-says m = rw (← lent .0, ← lent .1) (call.several-means κs a n e post m)
+
+    pub cells-zero : (n ≡ 0) ↔ ((m : ℕ) × (length pairs ≡ 2 * m) × (m ≤ length results))
+    cells-zero = (λ z. found (list-says 0 .0 z) refl, λ h. list-says 0 .1 (several-done tables (h .0) (h .1) (h .2)))
+      where
+        found : {j : ℕ} → SeveralSays (s .records) (s .relations) pairs results j → j ≡ 0 → (m : ℕ) × (length pairs ≡ 2 * m) × (m ≤ length results)
+        found (several-done right m h l) z = (m, h, l)
+        found (several-lists w) z = absurd (omega arith)
+        found (several-odd right m h) z = absurd (omega arith)
+        found (several-short right m h l) z = absurd (omega arith)
+
+    module _ (done : n ≡ 0) (k : ℕ) (l : k < pairCount pairs) where
+      abbrev primary : ℕ
+      primary = primaryOf pairs k
+
+      abbrev reference : ℕ
+      reference = referenceOf pairs k
+
+      abbrev result : ℕ
+      result = getD (e .1 .1 .1 .0 .now) k 0
+
+      cell-is : Readable (s .records) (s .relations) primary reference → result ≡ cellIn ((afterRun cs) .relations) primary reference
+      cell-is h =
+          call.several-cell κs a n e post done k l (rw (lent .0, lent .1) h) ∙ ap (λ (c : List ℕ). cellIn c primary reference) (lent .1) ∙ cell-after primary reference
+
+      number-is : (m : ℕ) → m ≢ 0 → ReadSays (s .records) (s .relations) primary reference m → result ≡ 1000 + m
+      number-is m some h = call.several-number κs a n e post done k l m some (rw (lent .0, lent .1) h)
+
+      pub cells-past : (slots ≤ primary) ⊎ (slots ≤ reference) → result ≡ 1008
+      cells-past h = number-is 8 (λ z. omega arith) (read-slot tables h)
+
+      pub cells-empty : primary < slots → reference < slots → (standing cs primary ≡ nothing) ⊎ (standing cs reference ≡ nothing) → result ≡ 1009
+      cells-empty hp hq h = number-is 9 (λ z. omega arith) (read-empty tables hp hq (⊎-elim (λ x. inl (bare primary hp x)) (λ x. inr (bare reference hq x)) h))
+
+      module _ (R : Region) (first : Stands cs primary R) where
+        pub cells-tile : (Q : Region) → Stands cs reference Q → primary ≢ reference → (M : Lines) → RegionBox Q M → (t : ℕ) → t < 9 → (bit result t ≡ 1) ↔ RegionHas M R t
+        cells-tile Q second other M is t b = rw (cell-is (may-read primary reference R first Q second)) (standing-tile cs primary reference R first Q second other M is t b)
+
+        pub cells-self : primary ≡ reference → result ≡ selfCell
+        cells-self same =
+            cell-is (may-read primary reference R first R (rw (← same) first))
+            ∙ ap (λ (j : ℕ). cellIn ((afterRun cs) .relations) primary j) (sym same) ∙ self-cell cs primary R first

@@ -6,9 +6,12 @@ ghost use Rattle.region.specs.Region.{regionOf};
 ghost use Rattle.region.specs.Rules.{Keeps};
 ghost use Rattle.relation.specs.Relation.{regionBox};
 ghost use Rattle.trial.specs.Given.{boxWith};
+use calls::Reading;
 use outline::check_region;
 use pair::pair_of;
 use plane::Box;
+use reading::read_cell;
+use reading::several::read_cells;
 use region::Checked;
 use relation::region_box;
 use relation::region_seen;
@@ -82,6 +85,33 @@ pub extern "C" fn trial_pair(
 ) -> u32 {
     let a = pair_of(first, first_ends, second, second_ends);
     a.first as u32 + 65536 * a.second as u32
+}
+
+// What is written of a reading of one cell, and the number of a list of pairs.
+#[no_mangle]
+pub extern "C" fn trial_cell(
+    records: &[u16],
+    relations: &[u16],
+    primary: u32,
+    reference: u32,
+) -> u32 {
+    let p = (primary % 65536) as u16;
+    let q = (reference % 65536) as u16;
+    let reading = read_cell(records, relations, p, q);
+    match reading {
+        Reading::Relation(relation) => relation as u32,
+        Reading::Refused(number) => 1000 + number as u32,
+    }
+}
+
+#[no_mangle]
+pub extern "C" fn trial_cells(
+    records: &[u16],
+    relations: &[u16],
+    pairs: &[u16],
+    results: &mut [u16],
+) -> u32 {
+    read_cells(records, relations, pairs, results) as u32
 }
 
 // A put, and a load of a card.

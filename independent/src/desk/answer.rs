@@ -13,6 +13,8 @@ use crate::tile;
 
 /// What a buffer holds before a call writes into it.
 const BEFORE: u8 = 0xA5;
+/// What a list of results holds before.
+const BEFORE_NUMBER: u16 = 0xA5A5;
 
 /// One sheet, empty at the start, in lists with room to spare, and how much of
 /// each list the sheet's calls are lent.
@@ -45,6 +47,7 @@ impl Desk {
             Request::Remove(slot) => number(&self.sheet().remove(slot)).to_string(),
             Request::Clear => number(&self.sheet().clear()).to_string(),
             Request::Cell(primary, reference) => self.cell(primary, reference),
+            Request::Cells(pairs, results) => self.cells(&pairs, results),
             Request::Row(slot) => self.row(slot),
             Request::Tiles(relation) => tile::count(relation).to_string(),
             Request::Directions(cells) => matrix::directions(cells).to_string(),
@@ -82,6 +85,13 @@ impl Desk {
         let (records, relations) = self.reading();
         let cell = sheet::cell(records, relations, primary, reference);
         format!("{} {}", number(&cell), cell.unwrap_or(0))
+    }
+
+    fn cells(&self, pairs: &[u16], length: usize) -> String {
+        let (records, relations) = self.reading();
+        let mut results = vec![BEFORE_NUMBER; length];
+        let outcome = sheet::cells(records, relations, pairs, &mut results);
+        spaced(std::iter::once(number(&outcome)).chain(results))
     }
 
     fn row(&self, slot: u16) -> String {

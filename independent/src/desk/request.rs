@@ -16,6 +16,8 @@ pub const ROOM: [usize; 3] = [
 
 const MOST_ENDS: usize = 64;
 const MOST_COORDINATES: usize = 1_024;
+const MOST_PAIR_NUMBERS: usize = 1_024;
+const MOST_RESULTS: usize = 1_024;
 const LONGEST_CARD_BUFFER: usize = 20_000;
 const LONGEST_REPORT_BUFFER: usize = 100;
 
@@ -28,6 +30,8 @@ pub enum Request {
     Remove(u16),
     Clear,
     Cell(u16, u16),
+    /// A list of pairs, and how many results there are.
+    Cells(Vec<u16>, usize),
     Row(u16),
     Tiles(u16),
     Directions(Cells),
@@ -57,6 +61,7 @@ pub fn parse(line: &[u8]) -> Option<Request> {
         b"remove" => Request::Remove(words.number()?),
         b"clear" => Request::Clear,
         b"cell" => Request::Cell(words.number()?, words.number()?),
+        b"cells" => Request::Cells(words.list(MOST_PAIR_NUMBERS)?, words.count(MOST_RESULTS)?),
         b"row" => Request::Row(words.number()?),
         b"tiles" => Request::Tiles(words.number()?),
         b"directions" => Request::Directions(words.cells()?),
@@ -190,6 +195,9 @@ mod tests {
             "lend 4097 289 1025",
             "write 20000",
             "host 100 -",
+            "cells 0 0",
+            "cells 0 1024",
+            "cells 3 0 65535 7 0",
             "lend 0 0 0",
         ] {
             assert!(is_request(line), "{line}");
@@ -202,6 +210,14 @@ mod tests {
             "write 20001",
             "host 101 -",
             "host 38",
+            "cells",
+            "cells 0",
+            "cells 2 0 1",
+            "cells 2 0 1 2 3",
+            "cells 0 1025",
+            "cells 1025 0",
+            "cells 1 -1 0",
+            "cells 1 65536 0",
             "load",
             "load 1",
             "load - -",

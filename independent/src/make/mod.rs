@@ -29,6 +29,8 @@ pub enum Kind {
     Drawn,
     /// Runs of calls on a sheet.
     Sheets,
+    /// The same, with lists of pairs among them.
+    Cells,
     /// Cards, each with requests about it.
     Cards,
     /// Matrices whose directions are read.
@@ -45,6 +47,7 @@ pub fn batch(kind: Kind, items: u64, seed: u64, output: &mut impl Write) -> io::
             Kind::Pairs => vec![pairs::request(&mut random)],
             Kind::Drawn => vec![drawn::request(&mut random)],
             Kind::Sheets => sheets::run(&mut random),
+            Kind::Cells => sheets::run_with_lists(&mut random),
             Kind::Cards => cards::requests(&mut random),
             Kind::Matrices => vec![matrices::request(&mut random)],
             Kind::Short => cards::short_requests(item, &mut random),

@@ -8,15 +8,28 @@ use crate::make::faults::outline_breaking;
 use crate::make::random::Random;
 use crate::make::regions;
 use crate::make::rings;
-use crate::make::text::{load_request, put_request, tiles_request};
+use crate::make::text::{cells_request, load_request, put_request, tiles_request};
 use crate::region::Outline;
 use crate::sheet::{COORDINATES, COORDINATES_A_SLOT, RECORD, RECORDS, RELATIONS, SLOTS};
 
+/// The most numbers that a list of pairs may have at the desk.
+const MOST_LISTED: usize = 1_024;
+
 /// One run: a reset, 20 to 200 calls, and a look at the whole sheet.
 pub fn run(random: &mut Random) -> Vec<String> {
+    lines_of_run(random, false)
+}
+
+/// The same, where a third of the calls ask for a list of pairs.
+pub fn run_with_lists(random: &mut Random) -> Vec<String> {
+    lines_of_run(random, true)
+}
+
+fn lines_of_run(random: &mut Random, lists: bool) -> Vec<String> {
     let mut run = Run {
         slots: slots_of_run(random),
         foreign: random.percent(50),
+        lists,
         lines: reset(),
         random,
     };
@@ -36,6 +49,8 @@ struct Run<'a> {
     slots: Vec<u16>,
     /// Whether others write on the sheet too.
     foreign: bool,
+    /// Whether lists of pairs are asked for.
+    lists: bool,
     lines: Vec<String>,
 }
 
@@ -74,6 +89,11 @@ impl Run<'_> {
     }
 
     fn call(&mut self) {
+        if self.lists && self.random.percent(33) {
+            let line = self.cells();
+            self.lines.push(line);
+            return;
+        }
         let line = match self.random.below(100) {
             0..=44 => self.put(),
             45..=58 => format!("remove {}", self.slot()),
@@ -89,6 +109,41 @@ impl Run<'_> {
             _ => "sheet".to_owned(),
         };
         self.lines.push(line);
+    }
+
+    /// Few pairs mostly, now and then none or as many as there may be; now and
+    /// then a number too many, and fewer results than pairs, or more.
+    fn cells(&mut self) -> String {
+        let count = match self.random.below(40) {
+            0..=3 => 0,
+            4 => MOST_LISTED / 2,
+            5..=7 => self.random.below(100),
+            _ => 1 + self.random.below(8),
+        };
+        let mut pairs: Vec<u16> = (0..2 * count).map(|_| self.slot_of_pair()).collect();
+        if self.random.percent(12) {
+            pairs.pop();
+        } else if self.random.percent(4) {
+            pairs.push(self.slot());
+        }
+        pairs.truncate(MOST_LISTED);
+        let whole = pairs.len() / 2;
+        let results = match self.random.below(8) {
+            0 => whole.saturating_sub(1),
+            1 => self.random.below(whole + 1),
+            2..=3 => whole + 1 + self.random.below(4),
+            _ => whole,
+        };
+        cells_request(&pairs, results)
+    }
+
+    /// A slot of a pair: numbers 8 and 9 in one pair are to meet.
+    fn slot_of_pair(&mut self) -> u16 {
+        match self.random.below(10) {
+            0 => self.random.pick(&[32, 33, 63, u16::MAX]),
+            1 => self.random.below(SLOTS) as u16,
+            _ => self.slot(),
+        }
     }
 
     /// A good outline mostly, short ones after long ones as it comes.

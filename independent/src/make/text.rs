@@ -15,6 +15,13 @@ pub fn put_request(slot: u16, parcel: &Outline) -> String {
     format!("put {slot} {}", outline(parcel))
 }
 
+pub fn cells_request(pairs: &[u16], results: usize) -> String {
+    let pairs: Vec<String> = std::iter::once(pairs.len().to_string())
+        .chain(pairs.iter().map(u16::to_string))
+        .collect();
+    format!("cells {} {results}", pairs.join(" "))
+}
+
 pub fn tiles_request(relation: u16) -> String {
     format!("tiles {relation}")
 }

@@ -71,6 +71,9 @@ fn every_request_has_its_line() {
         ("cell 3 1", "9 0"),
         ("cell 3 32", "8 0"),
         ("row 1", "0"),
+        ("cells 8 0 3 0 0 5 3 32 5 5", "0 216 16 1009 1008 42405"),
+        ("cells 3 0 3 0 0", "18"),
+        ("cells 4 0 3 0 0 1", "10 42405"),
         ("row 0", "32 16 0 0 216 0 0 0 0 0 0 0 0 0 0 0 0 0 0 0 0 0 0 0 0 0 0 0 0 0 0 0 0"),
         (
             "drawn 1 4 8 0 0 0 10 10 10 10 0 1 4 8 5 5 5 25 25 25 25 5",
@@ -164,7 +167,7 @@ fn any_bytes_get_one_answer_a_line() {
 #[test]
 fn requests_with_bytes_changed_get_one_answer_a_line() {
     let mut random = Random::new(52);
-    for kind in [Kind::Pairs, Kind::Drawn, Kind::Sheets, Kind::Cards] {
+    for kind in [Kind::Pairs, Kind::Drawn, Kind::Sheets, Kind::Cells, Kind::Cards] {
         let mut input = made(kind, 20, 53);
         for _ in 0..input.len() / 100 {
             let place = random.below(input.len());
@@ -180,7 +183,7 @@ fn requests_with_bytes_changed_get_one_answer_a_line() {
 /// The first numbers of the answers to requests that answer a number.
 fn numbers_given(requests: &[u8]) -> BTreeSet<u16> {
     let words = [
-        "pair", "put", "remove", "clear", "cell", "load", "write", "host",
+        "pair", "put", "remove", "clear", "cell", "cells", "load", "write", "host",
     ];
     numbers_given_to(&words, requests)
 }
@@ -202,7 +205,7 @@ fn numbers_given_to(words: &[&str], requests: &[u8]) -> BTreeSet<u16> {
 
 #[test]
 fn batches_depend_on_their_seed_alone() {
-    for kind in [Kind::Pairs, Kind::Drawn, Kind::Sheets, Kind::Cards] {
+    for kind in [Kind::Pairs, Kind::Drawn, Kind::Sheets, Kind::Cells, Kind::Cards] {
         assert_eq!(made(kind, 30, 5), made(kind, 30, 5));
         assert_ne!(made(kind, 30, 5), made(kind, 30, 6));
         let (few, many) = (made(kind, 10, 5), made(kind, 30, 5));
@@ -292,6 +295,96 @@ fn a_batch_of_sheets_has_every_number() {
     for number in [0, 1, 2, 3, 4, 5, 6, 7, 8, 9, 11, 12] {
         assert!(numbers.contains(&number), "{number} in {numbers:?}");
     }
+}
+
+/// The list of pairs and the number of results of a request `cells`.
+fn asked(request: &str) -> Option<(Vec<u16>, usize)> {
+    let mut words = request.strip_prefix("cells ")?.split(' ');
+    let mut next = || words.next().expect("a number").parse::<usize>();
+    let count = next().expect("a number");
+    let pairs = (0..count)
+        .map(|_| next().expect("a number") as u16)
+        .collect();
+    Some((pairs, next().expect("a number")))
+}
+
+/// A list of pairs is answered as its cells are one by one; a refused call
+/// leaves its results, and every refusal and every order of two is met.
+#[test]
+fn a_batch_of_lists_is_answered_as_its_cells_one_by_one() {
+    let batch = made(Kind::Cells, 60, 1);
+    let text = String::from_utf8(batch).expect("requests are plain text");
+    let mut input = String::new();
+    for line in text.lines() {
+        input.push_str(&format!("{line}\n"));
+        for pair in asked(line)
+            .into_iter()
+            .flat_map(|(pairs, _)| pairs_of(&pairs))
+        {
+            input.push_str(&format!("cell {} {}\n", pair.0, pair.1));
+        }
+    }
+    let mut answers = ask(input.as_bytes()).into_iter();
+    let mut met = BTreeSet::new();
+    for line in text.lines() {
+        let answer = answers.next().expect("an answer a line");
+        let (pairs, length) = match asked(line) {
+            Some(request) => request,
+            None => continue,
+        };
+        let numbers: Vec<u16> = answer
+            .split(' ')
+            .map(|word| word.parse().expect("a number"))
+            .collect();
+        let cells: Vec<(u16, u16)> = pairs_of(&pairs)
+            .iter()
+            .map(|_| answers.next().expect("an answer a line"))
+            .map(|cell| {
+                let (number, value) = cell.split_once(' ').expect("two numbers");
+                (
+                    number.parse().expect("a number"),
+                    value.parse().expect("a number"),
+                )
+            })
+            .collect();
+        let is_odd = pairs.len() % 2 == 1;
+        let is_short = length < pairs.len() / 2;
+        met.insert((numbers[0], is_odd, is_short));
+        assert_eq!(numbers.len(), length + 1);
+        let mut expected = vec![42_405; length];
+        if numbers[0] == 0 {
+            for (result, &(number, value)) in expected.iter_mut().zip(&cells) {
+                *result = if number == 0 { value } else { 1_000 + number };
+            }
+            met.extend(
+                cells
+                    .iter()
+                    .map(|&(number, _)| (1_000 + number, false, false)),
+            );
+        }
+        assert_eq!(numbers[1..], expected, "{line}");
+    }
+    for case in [
+        (0, false, false),
+        (10, false, true),
+        (11, false, false),
+        (11, false, true),
+        (11, true, false),
+        (18, true, false),
+        (18, true, true),
+        (1_000, false, false),
+        (1_008, false, false),
+        (1_009, false, false),
+    ] {
+        assert!(met.contains(&case), "{case:?} in {met:?}");
+    }
+}
+
+fn pairs_of(pairs: &[u16]) -> Vec<(u16, u16)> {
+    pairs
+        .chunks_exact(2)
+        .map(|pair| (pair[0], pair[1]))
+        .collect()
 }
 
 #[test]
