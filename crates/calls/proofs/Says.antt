@@ -2,22 +2,21 @@
 --   unchangeable-is      a number that refuses any change of a slot is the one that comes;  unchangeable-either  it is 11, 8 or 12;  unchangeable-not  so
 --                        not 0
 --   change-either        a slot may be changed, or the number that comes refuses it
---   put-says, remove-says, clear-says, read-says, several-says    the number is n exactly when case n of the call holds
+--   put-says, remove-says, clear-says, read-says    the number is n exactly when case n of the call holds
 use mathlib.Core.Path.{_≡_, refl, sym, _∙_, ap, subst}
 use mathlib.Core.Logic.{_↔_, _⊎_, _≢_, inl, inr, ⊎-elim}
 use mathlib.Core.Bool.{Bool, true, false, _||_}
 use mathlib.Core.List.{List}
-use Prim.Native.Nat.{ℕ, _+_, _*_, _≤_, _<_, _/_, _%_}
+use Prim.Native.Nat.{ℕ, _≤_, _<_}
 use native.Mathlib.Omega.{arith}
 use native.Mathlib.Decide.{decLt}
-use lib.Dec.{ltb, eqb}
-use lib.ListN.{length}
-use borrow.Author.Tests.{ltb-true, ltb-false, lt-ltb, le-ltb, eqb-true, eqb-false, eq-eqb, ne-eqb}
+use lib.Dec.{ltb}
+use borrow.Author.Tests.{ltb-true, ltb-false, lt-ltb, le-ltb}
 use Rattle.plane.proofs.Logic.{never, clash, is-false, is-true, or-means, eq-means, iff-join, iff-or}
 use Rattle.region.specs.declared.Checked.{Checked}
 use Rattle.region.specs.declared.Checked.the-variants.{Accepted, Refused}
 use Rattle.region.specs.Region.{Region}
-use Rattle.region.specs.Refusals.{numberIf, orElse, buffer-short, slot-number, slot-empty, sheet-lists, pairs-odd}
+use Rattle.region.specs.Refusals.{numberIf, orElse, slot-number, slot-empty, sheet-lists}
 use Rattle.region.specs.Check.{checkOf, numberOf}
 use Rattle.region.proofs.Check.{accepted-means, refused-means, accepted-number}
 use Rattle.layout.specs.Sheet.{Sheet, slots, lastSlot, wrongTables, wrongLists}
@@ -31,8 +30,7 @@ use Rattle.layout.proofs.Slots.{parcel-empty, parcel-there}
 use Rattle.layout.proofs.Refusing.{change-means, change-is}
 use Rattle.calls.specs.Changes.{putNumber, removeNumber, clearNumber}
 use Rattle.calls.specs.Readings.{readNumber}
-use Rattle.calls.specs.Several.{pairCount, oddPairs, severalNumber}
-use Rattle.calls.specs.Says.{Unchangeable, lists-wrong, slot-past, damage-there, PutSays, put-done, put-refused, put-broken, RemoveSays, remove-done, remove-refused, remove-empty, ClearSays, clear-done, clear-refused, ReadSays, read-done, read-lists, read-slot, read-empty, SeveralSays, several-done, several-lists, several-odd, several-short}
+use Rattle.calls.specs.Says.{Unchangeable, lists-wrong, slot-past, damage-there, PutSays, put-done, put-refused, put-broken, RemoveSays, remove-done, remove-refused, remove-empty, ClearSays, clear-done, clear-refused, ReadSays, read-done, read-lists, read-slot, read-empty}
 use Rattle.calls.proofs.Numbers.{put-first, put-next, remove-first, remove-next}
 use Rattle.calls.proofs.Readings.{read-means}
 
@@ -180,51 +178,3 @@ module _ (records relations : List ℕ) (i j : ℕ) where
 
   pub read-says : (n : ℕ) → (readNumber records relations i j ≡ n) ↔ ReadSays records relations i j n
   read-says n = (λ e. subst (ReadSays records relations i j) e read-case, read-back)
-
--- ---- a list of pairs
-module _ (records relations pairs results : List ℕ) where
-  abbrev less : Bool
-  less = ltb (length results) (pairCount pairs)
-
-  by-list-tests : (a b d : Bool) → wrongTables records relations ≡ a → oddPairs pairs ≡ b → less ≡ d
-      → severalNumber records relations pairs results ≡ orElse (numberIf a sheet-lists) (orElse (numberIf b pairs-odd) (numberIf d buffer-short))
-  unfolding severalNumber
-  by-list-tests a b d ea eb ed = rw (ea, eb, ed) refl
-
-  even : (n : ℕ) → length pairs ≡ 2 * n → oddPairs pairs ≡ false
-  even n e = ne-eqb (length pairs % 2) 1 (λ o. omega (arith, e, o))
-
-  half : (n : ℕ) → length pairs ≡ 2 * n → pairCount pairs ≡ n
-  half n e = omega (arith, e)
-
-  several-back : {n : ℕ} → SeveralSays records relations pairs results n → severalNumber records relations pairs results ≡ n
-  several-back (several-done right n e l) =
-      by-list-tests false false false (tables-mean records relations .1 right) (even n e) (le-ltb (length results) (pairCount pairs) (omega (arith, half n e, l)))
-  several-back (several-lists w) = by-list-tests true (oddPairs pairs) less (is-true _ (λ e. w (tables-mean records relations .0 e))) refl refl
-  several-back (several-odd right n e) =
-      by-list-tests false true less (tables-mean records relations .1 right) (eq-eqb (length pairs % 2) 1 (omega (arith, e))) refl
-  several-back (several-short right n e l) =
-      by-list-tests false false true (tables-mean records relations .1 right) (even n e) (lt-ltb (length results) (pairCount pairs) (omega (arith, half n e, l)))
-
-  several-case : SeveralSays records relations pairs results (severalNumber records relations pairs results)
-  several-case = go (wrongTables records relations) refl (oddPairs pairs) refl less refl
-    where
-      comes : {n : ℕ} → SeveralSays records relations pairs results n → SeveralSays records relations pairs results (severalNumber records relations pairs results)
-      comes c = subst (SeveralSays records relations pairs results) (sym (several-back c)) c
-
-      whole : oddPairs pairs ≡ false → length pairs ≡ 2 * pairCount pairs
-      whole e = let o : length pairs % 2 ≢ 1 = eqb-false (length pairs % 2) 1 e in omega (arith, o)
-
-      go : (a : Bool) → wrongTables records relations ≡ a → (b : Bool) → oddPairs pairs ≡ b → (d : Bool) → less ≡ d
-          → SeveralSays records relations pairs results (severalNumber records relations pairs results)
-      go true w b eb d ed = comes (several-lists (λ right. clash (wrongTables records relations) w (tables-mean records relations .1 right)))
-      go false w true eb d ed =
-          let o : length pairs % 2 ≡ 1 = eqb-true (length pairs % 2) 1 eb in
-          comes (several-odd (tables-mean records relations .0 w) (pairCount pairs) (omega (arith, o)))
-      go false w false eb true ed =
-          comes (several-short (tables-mean records relations .0 w) (pairCount pairs) (whole eb) (ltb-true (length results) (pairCount pairs) ed))
-      go false w false eb false ed =
-          comes (several-done (tables-mean records relations .0 w) (pairCount pairs) (whole eb) (ltb-false (length results) (pairCount pairs) ed))
-
-  pub several-says : (n : ℕ) → (severalNumber records relations pairs results ≡ n) ↔ SeveralSays records relations pairs results n
-  several-says n = (λ e. subst (SeveralSays records relations pairs results) e several-case, several-back)

@@ -1,7 +1,8 @@
 -- Laws of a list of pairs at once.
 --   several-is          the number, by the tests that decide it;  several-order  11, then 18, then 10
+--   several-says        the number is n exactly when case n of the call holds
 --   several-tables      a call that is not refused has lists of their lengths;  several-room  and a place for each pair
---   several-refused, several-done    the results that a refused call leaves, and one that is not
+--   several-refused, several-written    the results that a refused call leaves, and one that is not
 --   several-length      as many results as before
 --   several-at          place k has what reading the cell of pair k answers;  several-past  places past the pairs keep their values
 --   several-in-order    the results of reading one by one, whatever each reading answered
@@ -10,19 +11,20 @@
 --   pair-there          of a cell that may be read: what stands there, also 1000 or more on a sheet that others wrote
 --   pair-refused        else 1000 and the number;  pair-either  where the call is not refused, that is 1008 or 1009
 use mathlib.Core.Path.{_≡_, refl, sym, ap, _∙_, subst}
-use mathlib.Core.Logic.{_⊎_, _≢_, inl, inr}
+use mathlib.Core.Logic.{_↔_, _⊎_, _≢_, inl, inr}
 use mathlib.Core.Bool.{Bool, true, false, _||_}
 use mathlib.Core.List.{List}
-use Prim.Native.Nat.{ℕ, zero, suc, _+_, _≤_, _<_}
+use Prim.Native.Nat.{ℕ, zero, suc, _+_, _*_, _%_, _≤_, _<_}
 use native.Mathlib.Omega.{arith}
 use native.Mathlib.Nat.{lt-irrefl}
 use lib.Dec.{ltb, eqb}
 use lib.ListN.{length, getD, set}
-use borrow.Author.Tests.{ltb-false, eq-eqb, ne-eqb}
+use borrow.Author.Tests.{ltb-true, ltb-false, lt-ltb, le-ltb, eqb-true, eqb-false, eq-eqb, ne-eqb}
 use Rattle.plane.specs.Choice.{pick}
 use Rattle.plane.specs.Folds.{turns}
 use Rattle.plane.specs.Lists.{stores}
 use Rattle.plane.proofs.Lists.{length-stores, stores-at, stores-other}
+use Rattle.plane.proofs.Logic.{clash, is-true}
 use Rattle.region.specs.Refusals.{number, numberIf, orElse, buffer-short, slot-number, slot-empty, sheet-lists, pairs-odd}
 use Rattle.region.proofs.OrElse.{or-else-none, number-if-none}
 use Rattle.layout.specs.Sheet.{lastSlot, RightTables, wrongTables}
@@ -31,7 +33,7 @@ use Rattle.layout.proofs.RightLists.{tables-mean}
 use Rattle.calls.specs.declared.Reading.{Reading}
 use Rattle.calls.specs.Readings.{readNumber, readValue, readingOf, readingNumber, readingValue}
 use Rattle.calls.specs.Several.{pairCount, oddPairs, primaryOf, referenceOf, refusedFrom, resultOf, pairResult, severalNumber, several}
-use Rattle.calls.specs.Says.{Readable, ReadSays, read-done, read-lists, read-slot, read-empty}
+use Rattle.calls.specs.Says.{Readable, ReadSays, read-done, read-lists, read-slot, read-empty, SeveralSays, several-done, several-lists, several-odd, several-short}
 use Rattle.calls.proofs.Readings.{read-means, cell-answered, number-answered}
 use Rattle.calls.proofs.Says.{read-says}
 
@@ -68,24 +70,24 @@ module _ (records relations pairs results : List ℕ) where
         let q = or-else-none (numberIf (oddPairs pairs) pairs-odd) (numberIf short buffer-short) .0 (p .1) in
         ltb-false (length results) (pairCount pairs) (number-if-none short buffer-short .0 (q .1))
 
-    pub several-done : several records relations pairs results ≡ stores (λ k. k) (pairResult records relations pairs) (pairCount pairs) results
+    pub several-written : several records relations pairs results ≡ stores (λ k. k) (pairResult records relations pairs) (pairCount pairs) results
     unfolding several
-    several-done = simp (eq-eqb (severalNumber records relations pairs results) 0 z)
+    several-written = simp (eq-eqb (severalNumber records relations pairs results) 0 z)
 
     pub several-at : (d k : ℕ) → k < pairCount pairs → getD (several records relations pairs results) k d ≡ pairResult records relations pairs k
     several-at d k l =
-        ap (λ (s : List ℕ). getD s k d) several-done
+        ap (λ (s : List ℕ). getD s k d) several-written
         ∙ stores-at (λ j. j) (pairResult records relations pairs) d (pairCount pairs) k results l (omega (arith, l, several-room)) (λ m x y e. lt-irrefl k (omega (arith, e, x)))
 
     pub several-past : (d k : ℕ) → pairCount pairs ≤ k → getD (several records relations pairs results) k d ≡ getD results k d
     several-past d k l =
-        ap (λ (s : List ℕ). getD s k d) several-done
+        ap (λ (s : List ℕ). getD s k d) several-written
         ∙ stores-other (λ j. j) (pairResult records relations pairs) d (pairCount pairs) k results (λ m x e. lt-irrefl m (omega (arith, e, x, l)))
 
     pub several-in-order : (r : ℕ → Reading) → ((k : ℕ) → k < pairCount pairs → r k ≡ readingOf records relations (primaryOf pairs k) (referenceOf pairs k))
         → several records relations pairs results ≡ stores (λ k. k) (λ k. resultOf (r k)) (pairCount pairs) results
     unfolding turns
-    several-in-order r each = several-done ∙ go (pairCount pairs) each
+    several-in-order r each = several-written ∙ go (pairCount pairs) each
       where
         go : (n : ℕ) → ((k : ℕ) → k < n → r k ≡ readingOf records relations (primaryOf pairs k) (referenceOf pairs k))
             → stores (λ k. k) (pairResult records relations pairs) n results ≡ stores (λ k. k) (λ k. resultOf (r k)) n results
@@ -143,3 +145,43 @@ module _ (records relations : List ℕ) (i j : ℕ) where
       go (read-lists w) = absurd (w right)
       go (read-slot t l) = inr (inl (pair-refused 8 (λ e. omega arith) (read-slot t l)))
       go (read-empty t hi hj e) = inr (inr (pair-refused 9 (λ e. omega arith) (read-empty t hi hj e)))
+
+-- ---- which number, and what it says
+module _ (records relations pairs results : List ℕ) where
+  even : (n : ℕ) → length pairs ≡ 2 * n → oddPairs pairs ≡ false
+  even n e = ne-eqb (length pairs % 2) 1 (λ o. omega (arith, e, o))
+
+  half : (n : ℕ) → length pairs ≡ 2 * n → pairCount pairs ≡ n
+  half n e = omega (arith, e)
+
+  several-back : {n : ℕ} → SeveralSays records relations pairs results n → severalNumber records relations pairs results ≡ n
+  several-back (several-done right n e l) =
+      several-is records relations pairs results false false false (tables-mean records relations .1 right) (even n e) (le-ltb (length results) (pairCount pairs) (omega (arith, half n e, l)))
+  several-back (several-lists w) = several-is records relations pairs results true (oddPairs pairs) (short records relations pairs results) (is-true _ (λ e. w (tables-mean records relations .0 e))) refl refl
+  several-back (several-odd right n e) =
+      several-is records relations pairs results false true (short records relations pairs results) (tables-mean records relations .1 right) (eq-eqb (length pairs % 2) 1 (omega (arith, e))) refl
+  several-back (several-short right n e l) =
+      several-is records relations pairs results false false true (tables-mean records relations .1 right) (even n e) (lt-ltb (length results) (pairCount pairs) (omega (arith, half n e, l)))
+
+  several-case : SeveralSays records relations pairs results (severalNumber records relations pairs results)
+  several-case = go (wrongTables records relations) refl (oddPairs pairs) refl (short records relations pairs results) refl
+    where
+      comes : {n : ℕ} → SeveralSays records relations pairs results n → SeveralSays records relations pairs results (severalNumber records relations pairs results)
+      comes c = subst (SeveralSays records relations pairs results) (sym (several-back c)) c
+
+      whole : oddPairs pairs ≡ false → length pairs ≡ 2 * pairCount pairs
+      whole e = let o : length pairs % 2 ≢ 1 = eqb-false (length pairs % 2) 1 e in omega (arith, o)
+
+      go : (a : Bool) → wrongTables records relations ≡ a → (b : Bool) → oddPairs pairs ≡ b → (d : Bool) → (short records relations pairs results) ≡ d
+          → SeveralSays records relations pairs results (severalNumber records relations pairs results)
+      go true w b eb d ed = comes (several-lists (λ right. clash (wrongTables records relations) w (tables-mean records relations .1 right)))
+      go false w true eb d ed =
+          let o : length pairs % 2 ≡ 1 = eqb-true (length pairs % 2) 1 eb in
+          comes (several-odd (tables-mean records relations .0 w) (pairCount pairs) (omega (arith, o)))
+      go false w false eb true ed =
+          comes (several-short (tables-mean records relations .0 w) (pairCount pairs) (whole eb) (ltb-true (length results) (pairCount pairs) ed))
+      go false w false eb false ed =
+          comes (several-done (tables-mean records relations .0 w) (pairCount pairs) (whole eb) (ltb-false (length results) (pairCount pairs) ed))
+
+  pub several-says : (n : ℕ) → (severalNumber records relations pairs results ≡ n) ↔ SeveralSays records relations pairs results n
+  several-says n = (λ e. subst (SeveralSays records relations pairs results) e several-case, several-back)

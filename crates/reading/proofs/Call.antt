@@ -27,7 +27,7 @@ use Rattle.calls.specs.Readings.{readingOf, readingNumber}
 use Rattle.calls.specs.Several.{pairCount, primaryOf, referenceOf, refusedFrom, resultOf, pairResult, severalNumber}
 use Rattle.calls.specs.Says.{Readable, ReadSays, read-done, read-lists, read-slot, read-empty, SeveralSays, several-done, several-lists, several-odd, several-short}
 use Rattle.calls.proofs.Readings.{read-means, cell-answered, number-answered, row-full, row-cells, row-empty}
-use Rattle.calls.proofs.Says.{read-says, several-says}
+use Rattle.calls.proofs.Says.{read-says}
 use Rattle.calls.proofs.Several as laws
 use Rattle.reading.proofs.read_cell.Reads as read-reads
 use Rattle.reading.proofs.row.Reads as row-reads
@@ -112,7 +112,7 @@ module _ (κs : _) (a : _) (n : ℕ) (e : _) (post : several-reads.Post κs a n 
   after = e .1 .1 .1 .0 .now
 
   pub several-means : (m : ℕ) → (n ≡ m) ↔ SeveralSays list-records list-relations pairs before m
-  several-means m = rw (post .0) (several-says list-records list-relations pairs before m)
+  several-means m = rw (post .0) (laws.several-says list-records list-relations pairs before m)
 
   pub several-either : (n ≡ 0) ⊎ ((n ≡ 11) ⊎ ((n ≡ 18) ⊎ (n ≡ 10)))
   several-either = go (several-means n .0 refl)

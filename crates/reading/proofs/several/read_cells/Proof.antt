@@ -1,6 +1,6 @@
 use mathlib.Core.Path.{_≡_, sym, _∙_}
 use Rattle.calls.specs.Several.{severalNumber}
-use Rattle.calls.proofs.Several.{several-room, several-done, several-refused}
+use Rattle.calls.proofs.Several.{several-room, several-written, several-refused}
 use borrow.Author.Needs.{needs}
 use Rattle.reading.proofs.several.read_cells.Statement.{statement}
 use Rattle.reading.proofs.several.read_cells.Tie as tie
@@ -30,7 +30,7 @@ returns-2 : tie.Need-returns-2
 returns-2 c =
     let d = c .before .before in
     let z = accepted (d .before .before) in
-    (sym z, d .read-pairs .ensures ∙ sym (several-done _ _ _ _ z))
+    (sym z, d .read-pairs .ensures ∙ sym (several-written _ _ _ _ z))
 
 pub read-cells-spec : {M : Type 1} → statement M
 read-cells-spec =
