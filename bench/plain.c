@@ -248,8 +248,7 @@ uint32_t plain_put(Sheet *s, size_t slot, Region r) {
     memcpy(room, r.xy, 2 * vertices_of(r) * sizeof *room);
     for (size_t k = 0; k < SLOTS; k++) {
         uint32_t there = 0, back = 0;
-        if (k == slot) there = back = 16;
-        else if (s->records[(MOST_RINGS + 1) * k] != 0) {
+        if (k != slot && s->records[(MOST_RINGS + 1) * k] != 0) {
             Region other = outline_in(s, k);
             there = plain_relation(r, other);
             back = plain_relation(other, r);

@@ -7,7 +7,6 @@ use crate::check::{check, check_ends, is_out_of_range, last, MOST_RINGS, MOST_VE
 use crate::refusal::Refusal;
 use crate::region::{Outline, Region};
 use crate::relation::relation;
-use crate::tile;
 
 /// How many parcels a sheet holds.
 pub const SLOTS: usize = 32;
@@ -216,12 +215,11 @@ fn cell_index(primary: usize, reference: usize) -> usize {
     SLOTS * primary + reference
 }
 
-/// "A cell of two occupied slots holds the relation, a parcel with itself
-/// holding B; any other cell 0."
+/// A cell of two different occupied slots holds the relation, any other cell 0:
+/// by document 02, L5, also that of a parcel with itself.
 fn cell_value(standing: &Standing, primary: usize, reference: usize) -> u16 {
     match (standing.get(&primary), standing.get(&reference)) {
-        (Some(_), Some(_)) if primary == reference => tile::B,
-        (Some(first), Some(second)) => relation(first, &second.bounds()),
+        (Some(first), Some(second)) if primary != reference => relation(first, &second.bounds()),
         _ => 0,
     }
 }

@@ -24,7 +24,7 @@ use Rattle.relation.specs.Relation.{RegionBox, RegionHas, regionBox, relationOf
 use Rattle.relation.proofs.Relation.{relation-tile}
 use Rattle.layout.specs.Sheet.{Sheet, slots, relationsLength}
 use Rattle.layout.specs.Standing.{instead, ParcelKeeps}
-use Rattle.layout.specs.Layout.{selfCell, cellOf}
+use Rattle.layout.specs.Layout.{cellOf}
 use Rattle.layout.specs.Slots.{parcelAt, cellIn}
 use Rattle.layout.specs.Changes.{withParcel}
 use Rattle.layout.specs.Steps.{Ready}
@@ -60,7 +60,7 @@ module _ (s : Sheet) (i : ℕ) (R : Region) (il : i < slots) where
   abbrev relations : List ℕ
   relations = (withParcel s i (outline R)) .relations
 
-  pub self-renewed : cellIn relations i i ≡ selfCell
+  pub self-renewed : cellIn relations i i ≡ 0
   self-renewed =
       row-renewed s i (outline R) i il il ∙ ap (λ (q : Parcel). cellOf (outline R) q (eqb i i)) (own s i (outline R))
       ∙ ap (λ (t : Bool). cellOf (outline R) (outline R) t) (eq-eqb i i refl)

@@ -4,7 +4,7 @@
 --   layout-undamaged   it is undamaged
 --   layout-with        a parcel that comes into slot i of a layout gives the layout with that parcel in slot i
 --   layout-same        a layout hangs on the slots alone
---   layout-cell        a cell of a layout is that of the two parcels
+--   layout-cell        a cell of a layout is that of the two parcels;  layout-self  the cell of a slot with itself is 0, whatever stands
 --   stand-fewer, stand-instead, stand-same    what may stand together still may, with fewer rules, one parcel replaced, the same in each slot
 --   parcels-fit, rings-fit, vertices-fit    how many parcels and rings can stand, and that the list has room for all their vertices
 use mathlib.Core.Path.{_≡_, refl, sym, ap, ap₂, _∙_, subst}
@@ -14,6 +14,7 @@ use native.Mathlib.Omega.{arith}
 use lib.Dec.{eqb}
 use lib.IntN.{pos}
 use lib.ListN.{length, getD}
+use borrow.Author.Tests.{eq-eqb}
 use Rattle.plane.specs.Choice.{pick}
 use Rattle.plane.specs.TileSet.{one-if}
 use Rattle.plane.proofs.Folds.{sum-le}
@@ -79,6 +80,13 @@ layout-cell st p q hp hq =
     let d : (slots * p + q) / slots ≡ p = omega arith in
     let r : (slots * p + q) % slots ≡ q = omega arith in
     getD-tab _ 0 relationsLength (slots * p + q) (omega arith) ∙ rw (d, r) refl
+
+pub layout-self : (st : ℕ → Parcel) (p : ℕ) → p < slots → cellIn ((layout st) .relations) p p ≡ 0
+layout-self st p hp = layout-cell st p p hp hp ∙ ap (λ (t : Bool). cellOf (st p) (st p) t) (eq-eqb p p refl) ∙ go (st p)
+  where
+    go : (q : Parcel) → cellOf q q true ≡ 0
+    go nothing = refl
+    go (outline R) = refl
 
 module _ (st : ℕ → Parcel) (stand : StandTogether 4 st) where
   pub layout-lists : RightLists (layout st)

@@ -1,6 +1,6 @@
 -- SCOPE 7.2, 7.3: what stands decides every number of the three lists. The room of a slot has its outline's coordinates, its record the number
--- of rings and their ends, and places that nothing uses are 0. A cell has the relation of the parcel that is looked at to the other, B where
--- both are one, and 0 where one of the two slots is empty.
+-- of rings and their ends, and places that nothing uses are 0. A cell of two different slots has the relation of the parcel that is looked
+-- at to the other. It is 0 where both slots are one, by decree, and where one of the two is empty.
 --   recordNumber ends k     number k of the record of a slot with these ring ends
 --   selfCell                the cell of a parcel with itself
 --   cellOf p q same         the cell of the parcels p and q;  same: they stand in one slot
@@ -24,7 +24,7 @@ recordNumber ends zero = length ends
 recordNumber ends (suc k) = getD ends k 0
 
 abbrev pub selfCell : ℕ
-selfCell = 16
+selfCell = 0
 
 abbrev pub cellOf : Parcel → Parcel → Bool → ℕ
 cellOf nothing q same = 0

@@ -3,7 +3,7 @@
 //   ROOM, RECORD                       how many coordinates, and how many numbers of a record, belong to a slot
 //   COORDINATES, RECORDS, RELATIONS    how long the three lists are
 //   BOXES                              how long the list of boxes is, which is kept beside the sheet while parcels are written
-//   SELF_CELL                          the cell of a parcel with itself: B
+//   SELF_CELL                          the cell of a parcel with itself: no tile
 pub const SLOTS: usize = 32;
 
 pub const LAST_SLOT: u16 = 31;
@@ -20,4 +20,4 @@ pub const RELATIONS: usize = 1024;
 
 pub const BOXES: usize = 128;
 
-pub const SELF_CELL: u16 = 16;
+pub const SELF_CELL: u16 = 0;

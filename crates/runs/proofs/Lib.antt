@@ -7,3 +7,4 @@ pub mod Cards
 pub mod Calls
 pub mod Readings
 pub mod Transfers
+pub mod Neighbours

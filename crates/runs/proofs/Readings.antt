@@ -3,12 +3,13 @@
 --   reading-zero       a reading is not refused exactly when a parcel stands in each of the two slots
 --   reading-tile       for two parcels that stand in different slots: bit t of its value is 1 exactly when the rule finds the first in tile t of the
 --                      second's box
---   reading-self       of one slot: B;  reading-empty, reading-past  number 9 where nothing stands in one of the slots, 8 where there is no such slot
---   row-length         the row of a standing parcel has a cell for each slot
---   row-tile           its number k, where another parcel stands in slot k, by the rule;  row-self  its own, B;  row-empty  0 where nothing stands
+--   reading-self       of one slot: the value 0, which is no refusal: reading-self-read;  reading-empty, reading-past  number 9 where nothing stands in one of the slots, 8 where there is no such slot
+--   tiles-self         a count of the tiles of that value: 0
+--   row-length         the row of a standing parcel has a cell for each slot;  row-cell  and these are the sheet's
+--   row-tile           its number k, where another parcel stands in slot k, by the rule;  row-self  its own, 0;  row-empty  0 where nothing stands
 --   row-none           there is no row where nothing stands in the slot, or there is no such slot
 --   cells-zero         a list of pairs is not refused exactly when its length is even and there is a result for each pair
---   cells-tile         result k, where parcels stand in the two slots of pair k, which are different, by the rule;  cells-self  of one slot: B
+--   cells-tile         result k, where parcels stand in the two slots of pair k, which are different, by the rule;  cells-self  of one slot: 0
 --   cells-empty, cells-past    1009 where nothing stands in one of the two, 1008 where there is no such slot
 use mathlib.Core.Path.{_≡_, refl, sym, _∙_, ap}
 use mathlib.Core.Logic.{_↔_, _⊎_, _≢_, inl, inr, ⊎-elim}
@@ -18,23 +19,24 @@ use Prim.Native.Nat.{ℕ, _+_, _*_, _≤_, _<_}
 use native.Mathlib.Omega.{arith}
 use lib.ListN.{length, getD}
 use borrow.Author.Tests.{eqb-true, eqb-false}
+use Rattle.plane.specs.Folds.{sumTo}
 use Rattle.plane.specs.Points.{Lines}
 use Rattle.plane.specs.TileSet.{bit}
 use Rattle.region.specs.Region.{Region, Parcel, nothing, outline}
 use Rattle.relation.specs.Relation.{RegionBox, RegionHas}
 use Rattle.layout.specs.Sheet.{Sheet, slots, RightTables}
 use Rattle.layout.specs.Standing.{occupied}
-use Rattle.layout.specs.Layout.{selfCell}
 use Rattle.layout.specs.Slots.{ringsIn, emptyIn, cellIn}
 use Rattle.layout.proofs.Standing.{stand-fewer, layout-empty}
 use Rattle.calls.specs.declared.Reading.{Reading}
 use Rattle.calls.specs.declared.Reading.the-variants.{Relation, Refused}
-use Rattle.calls.specs.Readings.{readingNumber, readingValue}
+use Rattle.calls.specs.Readings.{readingNumber, readingValue, tileCount}
 use Rattle.calls.specs.Several.{pairCount, primaryOf, referenceOf}
 use Rattle.calls.specs.Says.{Readable, ReadSays, read-done, read-lists, read-slot, read-empty, SeveralSays, several-done, several-lists, several-odd, several-short}
 use Rattle.reading.proofs.Call as call
 use Rattle.reading.proofs.read_cell.Reads as read-reads
 use Rattle.reading.proofs.row.Reads as row-reads
+use Rattle.reading.proofs.tiles.Reads as tiles-reads
 use Rattle.reading.proofs.several.read_cells.Reads as several-reads
 use Rattle.runs.specs.Runs.{Call, afterRun, Stands, standing}
 use Rattle.runs.specs.Code.{Ran}
@@ -106,9 +108,16 @@ module _ {cs : List Call} {s : Sheet} (ran : Ran cs s) where
       pub reading-tile : (Q : Region) → Stands cs q Q → p ≢ q → (M : Lines) → RegionBox Q M → (t : ℕ) → t < 9 → (bit (readingValue r) t ≡ 1) ↔ RegionHas M R t
       reading-tile Q second other M is t l = rw (ap readingValue (value (may-read p q R first Q second))) (standing-tile cs p q R first Q second other M is t l)
 
-      pub reading-self : p ≡ q → r ≡ Relation selfCell
+      pub reading-self : p ≡ q → r ≡ Relation 0
       reading-self same =
           value (may-read p q R first R (rw (← same) first)) ∙ ap (λ (k : ℕ). Relation (cellIn ((afterRun cs) .relations) p k)) (sym same) ∙ ap Relation (self-cell cs p R first)
+
+      pub reading-self-read : p ≡ q → (readingNumber r ≡ 0) × (readingValue r ≡ 0)
+      reading-self-read same = (ap readingNumber (reading-self same), ap readingValue (reading-self same))
+
+      pub tiles-self : p ≡ q → (κt : _) (b : _) (n : ℕ) (f : _) → tiles-reads.Post κt b n f → b .0 ≡ readingValue r → n ≡ 0
+      unfolding tileCount sumTo
+      tiles-self same κt b n f counted of-it = counted ∙ ap tileCount (of-it ∙ reading-self-read same .1)
 
   -- ---- a row
   module _ (κs : _) (a : _) (r : _) (e : _) (post : row-reads.Post κs a r e) (lent : (a .0 .now ≡ s .records) × (a .1 .0 .now ≡ s .relations)) where
@@ -127,10 +136,13 @@ module _ {cs : List Call} {s : Sheet} (ran : Ran cs s) where
           let x = call.row-there κs a r e post (rw (lent .0, lent .1) (may-read slot slot R first R first)) in
           (x .0, λ k l. x .1 k l ∙ ap (λ (c : List ℕ). cellIn c slot k) (lent .1) ∙ cell-after slot k)
 
+      pub row-cell : (k : ℕ) → k < slots → getD (r .now) k 0 ≡ cellIn ((afterRun cs) .relations) slot k
+      row-cell = row-is .1
+
       pub row-length : length (r .now) ≡ slots
       row-length = row-is .0
 
-      pub row-self : getD (r .now) slot 0 ≡ selfCell
+      pub row-self : getD (r .now) slot 0 ≡ 0
       row-self = row-is .1 slot (stands-slot first) ∙ self-cell cs slot R first
 
       pub row-empty : (k : ℕ) → k < slots → standing cs k ≡ nothing → getD (r .now) k 0 ≡ 0
@@ -186,7 +198,7 @@ module _ {cs : List Call} {s : Sheet} (ran : Ran cs s) where
         pub cells-tile : (Q : Region) → Stands cs reference Q → primary ≢ reference → (M : Lines) → RegionBox Q M → (t : ℕ) → t < 9 → (bit result t ≡ 1) ↔ RegionHas M R t
         cells-tile Q second other M is t b = rw (cell-is (may-read primary reference R first Q second)) (standing-tile cs primary reference R first Q second other M is t b)
 
-        pub cells-self : primary ≡ reference → result ≡ selfCell
+        pub cells-self : primary ≡ reference → result ≡ 0
         cells-self same =
             cell-is (may-read primary reference R first R (rw (← same) first))
             ∙ ap (λ (j : ℕ). cellIn ((afterRun cs) .relations) primary j) (sym same) ∙ self-cell cs primary R first

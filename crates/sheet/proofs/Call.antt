@@ -5,7 +5,7 @@
 --   put-kept             beside a number that is not 0 the sheet is as it was found
 --   put-stands           where it answers 0, R stands in the slot, and in every other slot what stood there, whoever wrote it
 --   put-row, put-column  a tile is then in the cell of the slot and another one, and the other way round, exactly when the rule finds it
---   put-bare, put-self   the cells with an empty slot are 0, and that with itself has B;  put-touched  nothing else has changed
+--   put-bare, put-self   the cells with an empty slot are 0, and so is that with itself;  put-touched  nothing else has changed
 -- A removal from a slot:
 --   remove-means, remove-either, remove-kept, remove-touched    the same
 --   remove-stands, remove-cells    where it answers 0, nothing stands in the slot, and its cells are 0
@@ -22,7 +22,7 @@ use Rattle.region.proofs.Keeps.{broken-number}
 use Rattle.relation.specs.Relation.{RegionBox, RegionHas}
 use Rattle.layout.specs.Sheet.{Sheet, sheetOf, slots}
 use Rattle.layout.specs.Standing.{instead}
-use Rattle.layout.specs.Layout.{selfCell, blank}
+use Rattle.layout.specs.Layout.{blank}
 use Rattle.layout.specs.Slots.{parcelAt, cellIn}
 use Rattle.layout.specs.Changes.{withParcel, TouchesOnly}
 use Rattle.layout.specs.Steps.{Ready}
@@ -85,7 +85,7 @@ module _ (κs : _) (a : _) (n : ℕ) (e : _) (post : put-reads.Post κs a n e) w
     pub put-stands : (k : ℕ) → k < slots → parcelAt put-after k ≡ instead (parcelAt put-before) put-slot (outline put-region) k
     put-stands k h = ap (λ (s : Sheet). parcelAt s k) put-written ∙ parcel-standing put-before put-slot (outline put-region) put-may k h
 
-    pub put-self : cellIn (put-after .relations) put-slot put-slot ≡ selfCell
+    pub put-self : cellIn (put-after .relations) put-slot put-slot ≡ 0
     put-self = put-cell put-slot put-slot ∙ self-renewed put-before put-slot put-region (put-may .change .slot-in)
 
     module _ (k : ℕ) (h : k < slots) (other : k ≢ put-slot) where

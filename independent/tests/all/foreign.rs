@@ -110,7 +110,7 @@ fn the_cell_of_a_foreign_parcel_with_itself() {
     assert_eq!(lists.put(5, &single(rectangle(10, 20, 0, 10))), 0);
     // The put wrote its own row and column only; the other's own cell stays.
     assert_eq!(lists.cell(4, 4), Ok(0));
-    assert_eq!(lists.cell(5, 5), Ok(set("B")));
+    assert_eq!(lists.cell(5, 5), Ok(0));
     let foreign_to_own = lists.cell(4, 5);
     assert_eq!(foreign_to_own, Ok(set("NW:W:B:SW")));
 }

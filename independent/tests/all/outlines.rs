@@ -197,7 +197,7 @@ fn slots_31_and_32() {
     let mut lists = Lists::empty();
     assert_eq!(lists.put(31, &single(a())), 0);
     assert_eq!(lists.put(32, &single(a())), 8);
-    assert_eq!(lists.cell(31, 31), Ok(16));
+    assert_eq!(lists.cell(31, 31), Ok(0));
 }
 
 #[test]

@@ -75,15 +75,13 @@ fn any_run_of_calls_leaves_what_a_fresh_sheet_has() {
 }
 
 #[test]
-fn every_cell_is_the_relation_or_b_or_0() {
+fn every_cell_is_the_relation_or_0() {
     let mut lists = Lists::empty();
     assert_eq!(lists.put(0, &single(a())), 0);
     assert_eq!(lists.put(3, &single(c())), 0);
     let mut expected = vec![0; 1_024];
-    expected[0] = set("B");
     expected[3] = set("W:B:SW:S");
     expected[32 * 3] = set("N:NE:B:E");
-    expected[32 * 3 + 3] = set("B");
     assert_eq!(lists.relations, expected);
     assert_eq!(lists.records[..10], [1, 4, 0, 0, 0, 0, 0, 0, 0, 0]);
     assert_eq!(lists.records[27..30], [1, 4, 0]);
@@ -92,6 +90,32 @@ fn every_cell_is_the_relation_or_b_or_0() {
     assert_eq!(lists.row(3), Ok(&expected[96..128]));
     assert_eq!(lists.row(4), Err(9));
     assert_eq!(lists.cell(3, 0), Ok(set("N:NE:B:E")));
+}
+
+/// What an office counts in a row: a cell that is not 0 for each other parcel,
+/// whatever has been put and taken out before.
+#[test]
+fn a_row_counts_the_other_parcels() {
+    for seed in 0..20 {
+        let mut random = Random::new(seed);
+        let mut lists = Lists::empty();
+        for _ in 0..40 {
+            let slot = random.below(32) as u16;
+            if random.percent(70) {
+                lists.put(slot, &small_outline(&mut random));
+            } else {
+                lists.remove(slot);
+            }
+        }
+        let standing = (0..32).filter(|slot| lists.records[9 * slot] != 0);
+        let standing: Vec<u16> = standing.map(|slot| slot as u16).collect();
+        for &slot in &standing {
+            let row = lists.row(slot).expect("a parcel stands there");
+            let filled = row.iter().filter(|&&cell| cell != 0).count();
+            assert_eq!(filled, standing.len() - 1);
+            assert_eq!(lists.cell(slot, slot), Ok(0));
+        }
+    }
 }
 
 /// Lists full of numbers that are nobody's, with what stands undamaged.
@@ -150,8 +174,8 @@ fn on_a_sheet_of_others_a_put_writes_all_of_its_own_places_and_no_other() {
             let is_empty = after.records[9 * other] == 0;
             let cells = [32 * slot + other, 32 * other + slot];
             for cell in cells.map(|place| after.relations[place]) {
-                assert_eq!(cell == 0, is_empty, "every parcel here has a tile");
-                assert!(other != slot || cell == set("B"));
+                let has_tile = !is_empty && other != slot;
+                assert_eq!(cell != 0, has_tile, "every parcel here has a tile");
             }
         }
 
@@ -246,7 +270,7 @@ fn readings_look_at_11_then_8_then_9() {
     let mut lists = Lists::empty();
     assert_eq!(lists.put(0, &single(a())), 0);
     let expected = [
-        ((0, 0), Ok(set("B"))),
+        ((0, 0), Ok(0)),
         ((0, 1), Err(9)),
         ((1, 0), Err(9)),
         ((1, 32), Err(8)),
@@ -260,7 +284,7 @@ fn readings_look_at_11_then_8_then_9() {
     lists.coordinates.clear();
     assert_eq!(
         lists.cell(0, 0),
-        Ok(set("B")),
+        Ok(0),
         "a reading is not lent that list"
     );
     lists.relations.push(0);
