@@ -14,7 +14,7 @@ use independent::listing::listing;
 use independent::make::{self, Kind};
 
 const USAGE: &str =
-    "usage: independent desk | list | make pairs|drawn|sheets|cells|cards|matrices|short N SEED | spoil | cards N SEED DIR";
+    "usage: independent desk | list | make pairs|drawn|sheets|cells|cards|edges|matrices|short N SEED | spoil | cards N SEED DIR";
 
 /// What is asked for on the command line.
 enum Command {
@@ -101,6 +101,7 @@ fn parse_kind(word: &OsString) -> Result<Kind, String> {
         Some("sheets") => Ok(Kind::Sheets),
         Some("cells") => Ok(Kind::Cells),
         Some("cards") => Ok(Kind::Cards),
+        Some("edges") => Ok(Kind::Edges),
         Some("matrices") => Ok(Kind::Matrices),
         Some("short") => Ok(Kind::Short),
         _ => Err(format!("unknown kind {}", word.to_string_lossy())),

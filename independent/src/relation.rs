@@ -21,6 +21,14 @@ pub fn pieces(region: &Region, by: &Bounds) -> usize {
     edges.map(|edge| piece_middles(&edge, by).len()).sum()
 }
 
+/// The tiles of an edge in order of travel, one a piece.
+pub fn edge_tiles(edge: &Edge, of: &Bounds) -> Vec<u16> {
+    let middles = piece_middles(edge, of).into_iter();
+    middles
+        .filter_map(|middle| piece_tile(edge, middle, of))
+        .collect()
+}
+
 /// Whether a point is enclosed: "an odd number of edges cross the ray strictly
 /// east of it".
 pub fn encloses(ring: &Ring, (x, y): (Fraction, Fraction)) -> bool {

@@ -26,6 +26,11 @@ pub fn count(relation: u16) -> usize {
         .count()
 }
 
+/// The bit number of a tile.
+pub fn bit(tile: u16) -> u32 {
+    tile.trailing_zeros()
+}
+
 /// A relation in words, in bit order.
 pub fn relation_text(relation: u16) -> String {
     text(relation, "B")

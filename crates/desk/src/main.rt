@@ -120,6 +120,7 @@ fn ask(
     match name {
         names::PAIR => reports::pair_reply(line, from, out, at),
         names::DRAWN => reports::drawn_reply(line, from, out, at),
+        names::EDGE => reports::edge_reply(line, from, out, at),
         names::DIRECTIONS => reports::directions_reply(line, from),
         names::TILES => parcels::tiles_reply(line, from),
         names::LEND => kept::lend_reply(line, from, lent),

@@ -72,7 +72,8 @@ pub fn read_naturals(line: &[u8], from: usize, into: &mut [u16]) -> Numbers {
     Numbers::Are { count: i, next: at }
 }
 
-fn read_integers(line: &[u8], from: usize, into: &mut [i32]) -> Numbers {
+// The same for numbers that may be below 0.
+pub fn read_integers(line: &[u8], from: usize, into: &mut [i32]) -> Numbers {
     let mut at = from;
     let mut i = 0;
     while i < into.len() {

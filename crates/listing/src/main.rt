@@ -1,15 +1,16 @@
-// The listing program: a card on standard input, its list on standard output.
-mod input;
+// The listing program: a card on standard input, its list on standard output; with the argument --version, its version.
+mod version;
 
+use intake::read_card;
 use libc::STDERR_FILENO;
 use libc::STDOUT_FILENO;
 use lines::list;
 
 // A card has at most 17,036 bytes. One more tells a longer input, whose length is wrong however it goes on. Whatever was read has its list;
 // that there may have been more, or that the list was not written, is told on standard error, because a program has no exit status.
-fn main() {
+fn print_list() {
     let mut card = [0u8; 17037];
-    let input = input::read_card(&mut card);
+    let input = read_card(&mut card);
     if input.failed {
         io::write_all(
             STDERR_FILENO,
@@ -25,4 +26,12 @@ fn main() {
             b"listing: the list could not be written to its end\n",
         );
     }
+}
+
+fn main() {
+    if version::is_asked() {
+        version::print();
+        return;
+    }
+    print_list();
 }

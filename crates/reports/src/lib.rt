@@ -1,10 +1,13 @@
-// The requests on two outlines, on a matrix and on a card, which are answered with numbers of a report and need no sheet: pair, drawn, directions, host.
+// The requests on two outlines, on an edge, on a matrix and on a card, which are answered with numbers of a report and need no sheet: pair,
+// drawn, edge, directions, host.
+mod edges;
 mod matrices;
 mod pairs;
 
 use answers::BEFORE;
 use answers::Reply;
 use answers::fronts;
+pub use edges::edge_reply;
 use input::cards;
 pub use matrices::directions_reply;
 pub use pairs::drawn_reply;

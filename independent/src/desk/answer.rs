@@ -2,12 +2,15 @@
 
 use super::request::{Poke, Request, ROOM};
 use crate::card;
+use crate::check;
 use crate::drawn;
 use crate::hex;
 use crate::host;
 use crate::matrix;
 use crate::pair;
+use crate::plane::{Bounds, Edge, Point, Span};
 use crate::refusal::number;
+use crate::relation;
 use crate::sheet::{self, Sheet};
 use crate::tile;
 
@@ -50,6 +53,7 @@ impl Desk {
             Request::Cells(pairs, results) => self.cells(&pairs, results),
             Request::Row(slot) => self.row(slot),
             Request::Tiles(relation) => tile::count(relation).to_string(),
+            Request::Edge(ends, lines) => edge_answer(ends, lines),
             Request::Directions(cells) => matrix::directions(cells).to_string(),
             Request::Load(bytes) => number(&card::load(&mut self.sheet(), &bytes)).to_string(),
             Request::Write(length) => self.write(length),
@@ -143,6 +147,33 @@ fn nonzero(list: usize, numbers: &[impl Copy + Into<i32>]) -> Vec<String> {
 fn pair_answer(answer: &Result<pair::Comparison, pair::PairRefusal>) -> String {
     let around = u16::from(pair::around(answer));
     spaced(pair::numbers(answer).into_iter().chain([around]))
+}
+
+/// How many tiles an edge has, and the bit number of each in order of travel;
+/// `-` where a coordinate is out of range, the ends are equal, or the lines are
+/// those of no box.
+fn edge_answer([ax, ay, bx, by]: [i32; 4], [west, south, east, north]: [i32; 4]) -> String {
+    let numbers = [ax, ay, bx, by, west, south, east, north];
+    let in_range = |number: &i32| (-check::RANGE..=check::RANGE).contains(number);
+    let is_box = west <= east && south <= north;
+    if !numbers.iter().all(in_range) || (ax, ay) == (bx, by) || !is_box {
+        return "-".to_owned();
+    }
+    let edge = Edge {
+        from: Point { x: ax, y: ay },
+        to: Point { x: bx, y: by },
+    };
+    let span = |low: i32, high: i32| Span {
+        low: low.into(),
+        high: high.into(),
+    };
+    let lines = Bounds {
+        x: span(west, east),
+        y: span(south, north),
+    };
+    let tiles = relation::edge_tiles(&edge, &lines);
+    let bits = tiles.iter().map(|&tile| tile::bit(tile) as usize);
+    spaced(std::iter::once(tiles.len()).chain(bits))
 }
 
 fn host_answer(length: usize, card: &[u8]) -> String {

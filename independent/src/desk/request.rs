@@ -34,6 +34,9 @@ pub enum Request {
     Cells(Vec<u16>, usize),
     Row(u16),
     Tiles(u16),
+    /// An edge, x and y of its start and its end, and a box, west, south, east
+    /// and north.
+    Edge([i32; 4], [i32; 4]),
     Directions(Cells),
     Load(Vec<u8>),
     Write(usize),
@@ -64,6 +67,7 @@ pub fn parse(line: &[u8]) -> Option<Request> {
         b"cells" => Request::Cells(words.list(MOST_PAIR_NUMBERS)?, words.count(MOST_RESULTS)?),
         b"row" => Request::Row(words.number()?),
         b"tiles" => Request::Tiles(words.number()?),
+        b"edge" => Request::Edge(words.four()?, words.four()?),
         b"directions" => Request::Directions(words.cells()?),
         b"load" => Request::Load(words.bytes()?),
         b"write" => Request::Write(words.count(LONGEST_CARD_BUFFER)?),
@@ -131,6 +135,15 @@ impl<'a> Words<'a> {
             *cell = self.number()?;
         }
         Some(cells)
+    }
+
+    fn four(&mut self) -> Option<[i32; 4]> {
+        Some([
+            self.number()?,
+            self.number()?,
+            self.number()?,
+            self.number()?,
+        ])
     }
 
     fn bytes(&mut self) -> Option<Vec<u8>> {
@@ -256,6 +269,22 @@ mod tests {
             "directions 0 2 2 1 3 2 1 1 256",
             "directions 0 2 2 1 3 2 1 1 -0",
             "direction 0 2 2 1 3 2 1 1 0",
+        ] {
+            assert!(!is_request(line), "{line}");
+        }
+    }
+
+    #[test]
+    fn an_edge_and_a_box_are_eight_coordinates() {
+        let request = parse(b"edge 0 -1 2 3 4 5 6 -2147483648");
+        let expected = Request::Edge([0, -1, 2, 3], [4, 5, 6, i32::MIN]);
+        assert_eq!(request, Some(expected));
+        for line in [
+            "edge 0 0 10 10 5 5 25",
+            "edge 0 0 10 10 5 5 25 25 0",
+            "edge 0 0 10 10 5 5 25 2147483648",
+            "edge 0 0 10 10 5 5 25 +25",
+            "edges 0 0 10 10 5 5 25 25",
         ] {
             assert!(!is_request(line), "{line}");
         }

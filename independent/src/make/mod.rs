@@ -5,6 +5,7 @@
 
 pub mod cards;
 mod drawn;
+mod edges;
 pub mod faults;
 mod matrices;
 pub mod pairs;
@@ -33,6 +34,8 @@ pub enum Kind {
     Cells,
     /// Cards, each with requests about it.
     Cards,
+    /// Edges, each with a box.
+    Edges,
     /// Matrices whose directions are read.
     Matrices,
     /// Cards of 0 to 40 random bytes, each with requests about it.
@@ -49,6 +52,7 @@ pub fn batch(kind: Kind, items: u64, seed: u64, output: &mut impl Write) -> io::
             Kind::Sheets => sheets::run(&mut random),
             Kind::Cells => sheets::run_with_lists(&mut random),
             Kind::Cards => cards::requests(&mut random),
+            Kind::Edges => vec![edges::request(&mut random)],
             Kind::Matrices => vec![matrices::request(&mut random)],
             Kind::Short => cards::short_requests(item, &mut random),
         };

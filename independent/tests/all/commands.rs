@@ -194,3 +194,26 @@ fn matrices_show_every_direction_and_some_are_no_matrix() {
     let is_other = |word: &str| word.parse::<u8>().map_or(false, |number| number > 3);
     assert!(words.split_whitespace().any(is_other));
 }
+
+#[test]
+fn edges_show_every_tile_and_every_length() {
+    let requests = run(&["make", "edges", "2000", "1"], b"").stdout;
+    let answers = run(&["desk"], &requests).stdout;
+    let answers = String::from_utf8(answers).expect("plain text");
+    assert_eq!(answers.lines().count(), 2_000);
+    for (answer, least, most) in [("?", 30, 150), ("-", 200, 600)] {
+        let count = answers.lines().filter(|&line| line == answer).count();
+        assert!((least..most).contains(&count), "{answer}: {count}");
+    }
+    let lists: HashSet<&str> = answers.lines().collect();
+    for bit in 0..9 {
+        assert!(lists.contains(format!("1 {bit}").as_str()), "{bit} alone");
+    }
+    for length in 1..6 {
+        let begin = format!("{length} ");
+        assert!(
+            lists.iter().any(|list| list.starts_with(&begin)),
+            "{length}"
+        );
+    }
+}

@@ -2,9 +2,10 @@
 //! edges, boxes without width or height included (`lines_behind`). The program
 //! goes by the clauses; here every edge and box of a small grid is compared.
 
-use independent::plane::{Bounds, Span};
+use independent::plane::{Bounds, Edge, Point, Span};
 use independent::region::Region;
-use independent::relation::{pieces, relation};
+use independent::relation::{edge_tiles, pieces, relation};
+use independent::tile;
 
 /// A place on the way, `above / below` of it, with `below` above 0.
 type Way = (i32, i32);
@@ -79,6 +80,16 @@ fn every_edge_and_box_of_a_small_grid() {
                 for &to in points.iter().filter(|&&to| to != from) {
                     let step = (to.0 - from.0, to.1 - from.1);
                     let there = bits(Leg { from, step }, x_lines, y_lines);
+                    let point = |(x, y): (i32, i32)| Point { x, y };
+                    let edge = Edge {
+                        from: point(from),
+                        to: point(to),
+                    };
+                    let order: Vec<i32> = edge_tiles(&edge, &bounds)
+                        .into_iter()
+                        .map(|tile| tile::bit(tile) as i32)
+                        .collect();
+                    assert_eq!(order, there, "{from:?} {to:?} {bounds:?}");
                     let step = (-step.0, -step.1);
                     let back = bits(Leg { from: to, step }, x_lines, y_lines);
                     let bits = [there, back].concat();

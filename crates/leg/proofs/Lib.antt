@@ -1,0 +1,2 @@
+pub mod EightNumbers
+pub mod NoTile

@@ -1,0 +1,181 @@
+// The nine tiles of the reference's box across the map: its four lines, the tiles that the primary lies in, and their names.
+ghost use Prim.Native.Nat.{_≤_};
+use scale::view::Extent;
+use scale::view::View;
+use scale::view::bottom;
+use scale::view::x_of;
+use scale::view::y_of;
+use svg::Frame;
+use svg::put_after;
+use svg::put_frame;
+use svg::put_line;
+use svg::put_words;
+use words::put_text;
+
+const LEFT: u16 = 200;
+
+const RIGHT: u16 = 9400;
+
+const TOP: u16 = 200;
+
+// How far b lies beyond a.
+fn reach(a: u16, b: u16) -> u16 {
+    if b < a {
+        return 0;
+    }
+    b - a
+}
+
+fn middle(a: u16, b: u16) -> u16
+    requires { ⌜ (a ≤ 60000) × (b ≤ 60000) ⌝ }
+    ensures { λ r. ⌜ r ≤ 60000 ⌝ }
+{
+    if b < a {
+        return a;
+    }
+    a + (b - a) / 2
+}
+
+fn put_upright(out: &mut [u8], at: usize, v: View, x: u16) -> usize {
+    let line = Frame {
+        x,
+        y: TOP,
+        width: 0,
+        height: reach(TOP, bottom(v)),
+    };
+    put_line(out, at, line, b"")
+}
+
+fn put_level(out: &mut [u8], at: usize, y: u16) -> usize {
+    let line = Frame {
+        x: LEFT,
+        y,
+        width: 9200,
+        height: 0,
+    };
+    put_line(out, at, line, b"")
+}
+
+pub fn put_lines(out: &mut [u8], from: usize, v: View, b: Extent) -> usize {
+    let at = put_text(
+        out,
+        from,
+        b"<g stroke='#0b3d91' stroke-width='25' stroke-dasharray='120 70'>\n",
+    );
+    let at = put_upright(out, at, v, x_of(v, b.west));
+    let at = put_upright(out, at, v, x_of(v, b.east));
+    let at = put_level(out, at, y_of(v, b.north));
+    let at = put_level(out, at, y_of(v, b.south));
+    put_text(out, at, b"</g>\n")
+}
+
+// Where column c of tiles begins, and where row r does; the fourth is the end.
+fn column_at(v: View, b: Extent, c: u16) -> u16 {
+    match c {
+        0 => LEFT,
+        1 => x_of(v, b.west),
+        2 => x_of(v, b.east),
+        _ => RIGHT,
+    }
+}
+
+fn row_at(v: View, b: Extent, r: u16) -> u16 {
+    match r {
+        0 => TOP,
+        1 => y_of(v, b.north),
+        2 => y_of(v, b.south),
+        _ => bottom(v),
+    }
+}
+
+// Tile t, in the order of their bits.
+fn tile_frame(v: View, b: Extent, t: u16) -> Frame {
+    let c = t % 3;
+    let r = t % 9 / 3;
+    let x = column_at(v, b, c);
+    let y = row_at(v, b, r);
+    Frame {
+        x,
+        y,
+        width: reach(x, column_at(v, b, c + 1)),
+        height: reach(y, row_at(v, b, r + 1)),
+    }
+}
+
+fn put_tint(out: &mut [u8], at: usize, v: View, b: Extent, set: u16, t: u16) -> usize {
+    if t < 9 {
+        if (set >> t) % 2 == 1 {
+            return put_frame(out, at, tile_frame(v, b, t), b"");
+        }
+    }
+    at
+}
+
+pub fn put_tints(out: &mut [u8], from: usize, v: View, b: Extent, set: u16) -> usize {
+    let mut at = put_text(out, from, b"<g fill='#e69f00' fill-opacity='0.2'>\n");
+    let mut t: u16 = 0;
+    while t < 9 {
+        at = put_tint(out, at, v, b, set, t);
+        t += 1;
+    }
+    put_text(out, at, b"</g>\n")
+}
+
+// The name of the box itself, in its upper left corner; beside its upper right corner where the box is small.
+fn put_box_name(out: &mut [u8], at: usize, v: View, b: Extent) -> usize {
+    if is_small(tile_frame(v, b, 4)) {
+        return put_name_beside(out, at, x_of(v, b.east), y_of(v, b.north));
+    }
+    let x = x_of(v, b.west) + 120;
+    put_words(
+        out,
+        at,
+        x,
+        y_of(v, b.north) + 330,
+        b"text-anchor='start'",
+        b"B",
+    )
+}
+
+fn put_name_beside(out: &mut [u8], from: usize, x: u16, y: u16) -> usize
+    requires { ⌜ x ≤ 60000 ⌝ }
+{
+    let at = put_after(out, from, b"<path d='M", x);
+    let at = put_after(out, at, b" ", y);
+    let at = put_text(out, at, b"l190-120' stroke='#0b3d91' stroke-width='25'/>\n");
+    put_words(out, at, x + 210, reach(90, y), b"text-anchor='start'", b"B")
+}
+
+fn is_small(f: Frame) -> bool {
+    f.width < 900 || f.height < 900
+}
+
+fn put_sides(out: &mut [u8], from: usize, v: View, b: Extent) -> usize {
+    let x = middle(x_of(v, b.west), x_of(v, b.east));
+    let y = middle(y_of(v, b.north), y_of(v, b.south));
+    let at = put_words(out, from, x, 510, b"", b"N");
+    let at = put_words(out, at, 520, y + 100, b"", b"W");
+    let at = put_words(out, at, 9080, y + 100, b"", b"E");
+    put_words(out, at, x, reach(160, bottom(v)), b"", b"S")
+}
+
+fn put_corners(out: &mut [u8], from: usize, v: View) -> usize {
+    let y = reach(160, bottom(v));
+    let at = put_words(out, from, 520, 510, b"", b"NW");
+    let at = put_words(out, at, 9080, 510, b"", b"NE");
+    let at = put_words(out, at, 520, y, b"", b"SW");
+    put_words(out, at, 9080, y, b"", b"SE")
+}
+
+// The names stand where the map has no parcel: along the frame.
+pub fn put_names(out: &mut [u8], from: usize, v: View, b: Extent) -> usize {
+    let at = put_text(
+        out,
+        from,
+        b"<g fill='#0b3d91' font-size='300' font-weight='bold' text-anchor='middle' stroke='#ffffff' stroke-width='60' paint-order='stroke'>\n",
+    );
+    let at = put_corners(out, at, v);
+    let at = put_sides(out, at, v, b);
+    let at = put_box_name(out, at, v, b);
+    put_text(out, at, b"</g>\n")
+}
