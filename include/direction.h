@@ -1,4 +1,5 @@
 /* direction.h: where two parcels lie from each other. One call for the C host beside the steering.
+ * SPDX-License-Identifier: Apache-2.0
  *
  * The archive target/staticlib/libhost.a (made by `rt staticlib host`, for x86-64 Linux) holds the function below and nothing else that a
  * linker sees. It is proved: for every card of any content and length, and every report buffer of any length, the call ends, answers
@@ -12,7 +13,9 @@
  *         if (tiles & DIRECTION_NW) ..
  *     }
  *
- * C99 or later, or C++. Build: cc -std=c99 -Iinclude host.c target/staticlib/libhost.a     (examples/host.c is such a program)
+ * C99 or later, or C++. Build: cc -std=c99 -Iinclude host.c target/staticlib/libhost.a, or, where tools/install has put header and archive,
+ * cc -std=c99 host.c $(pkg-config --cflags --libs direction). examples/host.c and examples/cards.c are such programs; docs/HOST.md is the
+ * page for their writers.
  */
 #ifndef DIRECTION_H
 #define DIRECTION_H
@@ -24,9 +27,20 @@
 extern "C" {
 #endif
 
+/* The version of this header and of the archive beside it; CHANGELOG.md says what each brought. A host can ask for one at compile time:
+ *     #if DIRECTION_VERSION_NUMBER < 10100
+ *     #error "direction 1.1.0 or later is needed"
+ *     #endif
+ */
+#define DIRECTION_VERSION "1.1.0"
+#define DIRECTION_VERSION_MAJOR 1
+#define DIRECTION_VERSION_MINOR 1
+#define DIRECTION_VERSION_PATCH 0
+#define DIRECTION_VERSION_NUMBER (DIRECTION_VERSION_MAJOR * 10000 + DIRECTION_VERSION_MINOR * 100 + DIRECTION_VERSION_PATCH)
+
 /* direction_report: reads a card of exactly two parcels and writes the report on them.
  *
- *   card, card_length       the card's bytes; they are only read. A card of two parcels has at most 1,076 bytes.
+ *   card, card_length       the card's bytes; they are only read.
  *   report, report_length   the buffer for the report. Its first 38 bytes are written if the answer is 0; every byte past them keeps its
  *                           value. If the answer is not 0, the whole buffer keeps its values.
  *   returns                 0, or the number of the refusal: one of the DIRECTION_REFUSED_ numbers below.
@@ -47,6 +61,7 @@ uint32_t direction_report(const uint8_t *card, size_t card_length, uint8_t *repo
 
 /* Sizes, in bytes. */
 #define DIRECTION_REPORT_LENGTH 38
+#define DIRECTION_CARD_TWO_MOST 1076 /* the longest card of two parcels: a card that is answered with 0 has no more */
 #define DIRECTION_CARD_MOST 17036 /* the longest card of any number of parcels; a longer one is refused (14) */
 #define DIRECTION_STACK 4096      /* stack of a call, at most; memcpy and memset are the host's and not counted */
 #define DIRECTION_CODE 28672      /* code and constants of the archive, at most; it has no variables */
