@@ -1,7 +1,7 @@
 // What is said below the map: tiles and directions in words as the list has them, pieces, the matrix, and "around" where it is.
+use around::around;
 use names::put_set;
 use pair::Answer;
-use pair::around;
 use scale::view::View;
 use scale::view::bottom;
 use svg::Frame;

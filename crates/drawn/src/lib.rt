@@ -19,6 +19,10 @@ ghost use Rattle.drawing.specs.Stays.{gap, stayUp, stayDown, counted, stayOf, o
 ghost use Rattle.drawing.specs.Drawing.{sameBox};
 ghost use Rattle.drawn.specs.Drawn.{refusedWith, orRefused, drawnFor, drawnOf};
 ghost use Rattle.drawn.specs.Steps.{rowStay, rowSet, near, nearRow, nearCell, edgesMark, ringCentre, regionCentre, markedBy, isMarked, valueBy};
+use circuit::equal_ends;
+use circuit::ring_edge;
+use circuit::ring_encloses;
+use circuit::stretch_box;
 use drawing::Stay;
 use matrix::CELLS;
 use matrix::GridLines;
@@ -34,10 +38,6 @@ use plane::greater;
 use plane::lesser;
 use region::Checked;
 use relation::region_box;
-use ring::equal_ends;
-use ring::ring_edge;
-use ring::ring_encloses;
-use ring::stretch_box;
 use seen::covers_box;
 
 // Either the refusal (number, region, ring, and every other field 0), or number, region and ring 0 and the matrix with its size, its cells by row.

@@ -17,9 +17,9 @@ use Rattle.relation.specs.Relation.{RegionBox, RegionHas}
 use Rattle.pair.specs.Answer.{pairOf}
 use Rattle.endian.specs.Bytes.{u16At}
 use Rattle.card.specs.Reading.{regionAt}
-use Rattle.host.specs.Report.{reportLength}
-use Rattle.host.specs.Meaning.{Reported, HostSays, HostGives, ReportHas}
-use Rattle.host.proofs.Meaning.{host-says, number-none-means, number-either, report-kept, report-behind, report-named, report-has, report-tile}
+use Rattle.report.specs.Report.{reportLength}
+use Rattle.report.specs.Meaning.{Reported, HostSays, HostGives, ReportHas}
+use Rattle.report.proofs.Meaning.{host-says, number-none-means, number-either, report-kept, report-behind, report-named, report-has, report-tile}
 use Rattle.host.proofs.direction_report.Reads as reads
 
 module _ (κs : _) (a : _) (r : ℕ) (s : _) (post : reads.Post κs a r s) where

@@ -1,4 +1,2 @@
-mod Report
-pub mod Meaning
 pub mod Call
 pub mod Only

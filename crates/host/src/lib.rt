@@ -1,6 +1,6 @@
 // The one call for the C host: a card of two parcels in, a report out.
 ghost use mathlib.Core.Path.{_≡_};
-ghost use Rattle.host.specs.Report.{hostNumber, hostReport};
+ghost use Rattle.report.specs.Report.{hostNumber, hostReport};
 use card::parcel_count;
 use carried::pair_in;
 use contents::rules::card_number;

@@ -25,9 +25,9 @@ use Rattle.pair.proofs.Refusals.{number-most}
 use Rattle.endian.specs.Bytes.{u16Bytes}
 use Rattle.card.specs.Reading.{firstRing, endsAt, firstVertex, numbersAt}
 use Rattle.card.specs.CardNumber.{wrongHeader, wrongEntry, wrongParcels, sizesNumber, wrongVertices, shapeNumber, cardNumber}
-use Rattle.host.specs.Report.{reportLength, hostNumber}
-use Rattle.host.specs.Meaning.{HostGives}
-use Rattle.host.proofs.Meaning.{number-either}
+use Rattle.report.specs.Report.{reportLength, hostNumber}
+use Rattle.report.specs.Meaning.{HostGives}
+use Rattle.report.proofs.Meaning.{number-either}
 use Rattle.outlines.specs.Rows.{square, two-vertices, too-far, bow-tie, reversed}
 
 -- what holds of a number and of those above it, holds of all from it on

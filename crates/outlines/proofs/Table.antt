@@ -25,7 +25,8 @@ use Rattle.matrix.specs.Holding.{insert, linesOf, cellAt, rangeOf, holds}
 use Rattle.matrix.specs.Matrix.{cellValue, matrixOf, flatOf}
 use Rattle.compass.specs.Directions.{sideOf, holdsFirst, holdsSecond, compassPlace, directed, directionsOf}
 use Rattle.pair.specs.declared.Answer.{Answer}
-use Rattle.pair.specs.Answer.{pairOf, answerOf, given, aroundOf}
+use Rattle.pair.specs.Answer.{pairOf, answerOf, given}
+use Rattle.around.specs.Around.{aroundOf}
 use Rattle.outlines.specs.Rows.{Row, rows}
 
 abbrev pub answerTo : Row → Answer

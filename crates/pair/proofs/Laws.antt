@@ -1,5 +1,5 @@
 -- What the pair answer says, in words that a user can check against a map: both relations and both piece counts. The other fields: number, region
--- and ring in proofs/Refusals, rows, columns and cells in proofs/Cells, directions in proofs/Directions; the word "around" in proofs/Surrounding.
+-- and ring in proofs/Refusals, rows, columns and cells in proofs/Cells, directions in proofs/Directions; the word "around" in around/proofs/Surrounding.
 --   number-means      number 0 exactly when both regions keep rules 1 to 7: they are `Answered`;  four  they keep rules 1 to 4 then
 --   fields-are        the fields of such an answer
 --   some-tile         neither relation of it is 0;  has-tile, has-back-tile  for each region has a tile of the other's box

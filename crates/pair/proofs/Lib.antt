@@ -4,7 +4,5 @@ pub mod Refusals
 pub mod Cells
 pub mod Directions
 pub mod Compass
-pub mod NineCells
-pub mod Surrounding
 pub mod Somewhere
 pub mod Only

@@ -1,19 +1,14 @@
--- SCOPE 6.1, 6.2, 5.5: the pair call. Region 1 is wholly checked, then region 2, and a refusal says which of them it is of. Beside a refusal
--- all other fields are 0. A region is around the other where it has all eight tiles round the other's box and not B, and the other has B of
--- its box and no tile besides.
+-- SCOPE 6.1, 6.2: the pair call. Region 1 is wholly checked, then region 2, and a refusal says which of them it is of. Beside a refusal
+-- all other fields are 0.
 --   refusedWith n g r          the refusal with number n that names region g and ring r
 --   orRefused c g a            the answer a where the check c accepts region g, and its refusal where not
 --   given a b there back       the answer's fields for two boxes and what each region shows of the other's
 --   answerOf first second      the answer for two regions that are accepted
 --   pairOf first second        the pair answer for any two regions. Its meaning: proofs/Laws
---   eight, middle              the eight tiles without B, and B alone, as sets
---   aroundOf a                 the word "around" of an answer: no for a refused one. Its meaning: proofs/Surrounding
 --   reportWords a              the 19 numbers of an answer: number, region, ring, both relations, rows, columns, nine cells by row, directions,
 --                              the pieces of both
-use mathlib.Core.Bool.{Bool, _&&_}
 use mathlib.Core.List.{List, [], _∷_, _++_}
 use Prim.Native.Nat.{ℕ}
-use lib.Dec.{eqb}
 use lib.ListN.{replicate}
 use Rattle.plane.specs.declared.Box.{Box}
 use Rattle.seen.specs.declared.Seen.{Seen}
@@ -70,15 +65,6 @@ answerOf first second =
 
 unfoldable pub pairOf : (first second : Region) → Answer
 pairOf first second = orRefused (checkOf first) 1 (orRefused (checkOf second) 2 (answerOf first second))
-
-abbrev pub eight : ℕ
-eight = 495
-
-abbrev pub middle : ℕ
-middle = 16
-
-unfoldable pub aroundOf : Answer → Bool
-aroundOf a = eqb (a .first) eight && eqb (a .second) middle
 
 abbrev pub reportWords : Answer → List ℕ
 reportWords a =

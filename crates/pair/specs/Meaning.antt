@@ -7,8 +7,6 @@
 --   FirstAt first L M i j         the grid has a cell in row i and column j, it lies inside the first region's box, and the first region has the tile
 --                                 of the second's box around it;  SecondAt second L M i j  the same of the second region
 --   Lies first second L M k       some such cell of the first region lies in direction k from some such cell of the second
---   Surrounds first second L M    the first region is around the second: it has each of the eight tiles round the second's box and not B, and the
---                                 second has B of the first's box and no other tile
 use mathlib.Core.Path.{_≡_}
 use mathlib.Core.Logic.{_↔_, _⊎_, _≢_}
 use Prim.Native.Nat.{ℕ, _+_, _*_, _/_, _%_, _<_}
@@ -48,7 +46,3 @@ pub record Lies (first second : Region) (L M : Lines) (k : ℕ) : Type 0 where
   pub holds-second : SecondAt second L M i' j'
   pub rows : Toward (k / 3) i i'
   pub columns : Toward (k % 3) j j'
-
-pub record Surrounds (first second : Region) (L M : Lines) : Type 0 where
-  pub all-but-middle : (k : ℕ) → k < 9 → RegionHas M first k ↔ (k ≢ 4)
-  pub middle-alone : (k : ℕ) → k < 9 → RegionHas L second k ↔ (k ≡ 4)

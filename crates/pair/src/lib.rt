@@ -2,7 +2,7 @@
 ghost use mathlib.Core.Path.{_≡_};
 ghost use Rattle.region.specs.Region.{regionOf};
 ghost use Rattle.region.specs.Rules.{Keeps};
-ghost use Rattle.pair.specs.Answer.{refusedWith, orRefused, given, answerOf, pairOf, aroundOf, reportWords};
+ghost use Rattle.pair.specs.Answer.{refusedWith, orRefused, given, answerOf, pairOf, reportWords};
 use compass::directions_of;
 use matrix::flat_of;
 use matrix::grid_of;
@@ -13,11 +13,6 @@ use region::Checked;
 use relation::region_box;
 use relation::region_seen;
 use seen::Seen;
-
-// The eight tiles without B, and B alone, as sets.
-const EIGHT: u16 = 495;
-
-const MIDDLE: u16 = 16;
 
 // Either the refusal (number, region, ring, and every other field 0), or number, region and ring 0 and the answers: the relation of the
 // first region to the second and of the second to the first, the matrix with its size, the directions of the first from the second, and
@@ -113,14 +108,6 @@ pub fn pair_of(first: &[i32], first_ends: &[u16], second: &[i32], second_ends: &
         return refusal(two, 2);
     };
     answer_of(first, first_ends, second, second_ends)
-}
-
-// Is the first region around the second? It lies in all eight tiles round the second's box and not in the box; the second lies in the first's box
-// and nowhere else.
-pub fn around(a: Answer) -> bool
-    ensures { λ r. ⌜ r ≡ aroundOf a ⌝ }
-{
-    a.first == EIGHT && a.second == MIDDLE
 }
 
 // The 19 numbers of an answer, in the order of its fields.

@@ -57,7 +57,7 @@ fn put_answer(answer: pair::Answer, out: &mut [u8], at: usize) -> usize {
     let numbers = pair::report_words(answer);
     let next = words::put_natural(out, at, numbers[0] as u64);
     let next = answers::put_numbers(out, next, &numbers[1..19]);
-    answers::put_number(out, next, bit(pair::around(answer)))
+    answers::put_number(out, next, bit(around::around(answer)))
 }
 
 fn bit(around: bool) -> u64 {

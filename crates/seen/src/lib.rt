@@ -11,17 +11,17 @@ ghost use Rattle.ring.specs.Stretch.{Stretch};
 ghost use Rattle.ring.specs.RingBox.{stretchBox, covers};
 ghost use Rattle.seen.specs.Pass.{block, edgeTo, classingBox, cornerClass, Classes, seenTo};
 ghost use Rattle.seen.specs.RingSeen.{edgesSeen, ringSeen};
+use circuit::equal_ends;
+use circuit::ring_edge;
+use circuit::ring_encloses;
+use circuit::stretch_box;
+use circuit::x_of;
+use circuit::y_of;
 use classes::vertex_class;
 use classes::walk_told;
 use edge::Walk;
 use edge::walk_edge;
 use plane::Box;
-use ring::equal_ends;
-use ring::ring_edge;
-use ring::ring_encloses;
-use ring::stretch_box;
-use ring::x_of;
-use ring::y_of;
 
 // What a ring or a region shows a box: the set of the tiles that it has, and into how many pieces the box's lines cut its edges.
 pub struct Seen {

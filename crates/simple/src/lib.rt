@@ -19,15 +19,15 @@ use bands::MOST_EDGES;
 use bands::found_near;
 use bands::lay_bands;
 use bands::place_in;
+use circuit::next_of;
+use circuit::ring_edge;
+use circuit::stretch_box;
 use meet::in_line;
 use meet::product;
 use meet::shares;
 use meet::turns_back;
 use plane::Edge;
 use plane::place_at;
-use ring::next_of;
-use ring::ring_edge;
-use ring::stretch_box;
 
 // Up to so many vertices the edges' ranges are laid out one by one: bands would cost more than they save.
 const SMALL: usize = 16;

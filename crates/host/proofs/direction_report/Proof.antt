@@ -10,8 +10,8 @@ use Rattle.endian.specs.Placed.{placed, wordBytes}
 use Rattle.card.specs.Reading.{parcelCount}
 use Rattle.card.specs.CardNumber.{cardNumber}
 use Rattle.card.proofs.Good.{good-means}
-use Rattle.host.specs.Report.{reportNumbers, reportLength, reportBytes}
-use Rattle.host.proofs.Report.{report-short, report-card, report-parcels, report-done}
+use Rattle.report.specs.Report.{reportNumbers, reportLength, reportBytes}
+use Rattle.report.proofs.Report.{report-short, report-card, report-parcels, report-done}
 use Rattle.host.proofs.direction_report.Statement.{statement}
 use Rattle.host.proofs.direction_report.Tie as tie
 

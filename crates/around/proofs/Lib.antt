@@ -1,0 +1,2 @@
+pub mod NineCells
+pub mod Surrounding
