@@ -118,15 +118,10 @@ fn ask(
     let name = word.value;
     let from = word.next;
     match name {
-        names::PAIR => reports::pair_reply(line, from, out, at),
-        names::DRAWN => reports::drawn_reply(line, from, out, at),
-        names::EDGE => reports::edge_reply(line, from, out, at),
-        names::DIRECTIONS => reports::directions_reply(line, from),
         names::TILES => parcels::tiles_reply(line, from),
         names::LEND => kept::lend_reply(line, from, lent),
         names::POKE => lists::poke_reply(line, from, xs, records, relations),
         names::SHEET => lists::sheet_reply(line, from, out, at, xs, records, relations),
-        names::HOST => reports::host_reply(line, from, out, at),
         names::PUT | names::REMOVE | names::CLEAR | names::LOAD => kept::change(
             name,
             line,
@@ -147,6 +142,6 @@ fn ask(
             relations,
             lent,
         ),
-        _ => Reply::Bad,
+        _ => reports::reply(name, line, from, out, at),
     }
 }

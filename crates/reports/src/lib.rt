@@ -7,15 +7,28 @@ mod pairs;
 use answers::BEFORE;
 use answers::Reply;
 use answers::fronts;
-pub use edges::edge_reply;
+use edges::edge_reply;
 use input::cards;
-pub use matrices::directions_reply;
-pub use pairs::drawn_reply;
-pub use pairs::pair_reply;
+use input::names;
+use matrices::directions_reply;
+use pairs::drawn_reply;
+use pairs::pair_reply;
 use words::Bytes;
 use words::Natural;
 
-pub fn host_reply(line: &[u8], from: usize, out: &mut [u8], at: usize) -> Reply {
+// The answer to a request by its name.
+pub fn reply(name: u64, line: &[u8], from: usize, out: &mut [u8], at: usize) -> Reply {
+    match name {
+        names::PAIR => pair_reply(line, from, out, at),
+        names::DRAWN => drawn_reply(line, from, out, at),
+        names::EDGE => edge_reply(line, from, out, at),
+        names::DIRECTIONS => directions_reply(line, from),
+        names::HOST => host_reply(line, from, out, at),
+        _ => Reply::Bad,
+    }
+}
+
+fn host_reply(line: &[u8], from: usize, out: &mut [u8], at: usize) -> Reply {
     let number = words::read_natural(line, from);
     let Natural::Is { value, next } = number else {
         return Reply::Bad;
