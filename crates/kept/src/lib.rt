@@ -1,6 +1,4 @@
 // The sheet that the desk keeps. The calls on it are lent as much of each of its lists as `lent` says, which the request lend changes.
-mod cards;
-
 use answers::Reply;
 use answers::fronts;
 use input::names;
@@ -82,7 +80,7 @@ fn change_lent(
         names::PUT => parcels::put_reply(line, from, xs, records, relations),
         names::REMOVE => parcels::remove_reply(line, from, xs, records, relations),
         names::CLEAR => parcels::clear_reply(line, from, xs, records, relations),
-        names::LOAD => cards::load_reply(line, from, xs, records, relations),
+        names::LOAD => papers::load_reply(line, from, xs, records, relations),
         _ => Reply::Bad,
     }
 }
@@ -105,7 +103,7 @@ pub fn read(
         names::CELL => parcels::cell_reply(line, from, records, relations),
         names::CELLS => parcels::cells_reply(line, from, out, at, records, relations),
         names::ROW => parcels::row_reply(line, from, out, at, records, relations),
-        names::WRITE => cards::write_reply(line, from, out, at, xs, records, relations),
+        names::WRITE => papers::write_reply(line, from, out, at, xs, records, relations),
         _ => Reply::Bad,
     }
 }
