@@ -4,11 +4,8 @@ use names::put_set;
 use pair::Answer;
 use scale::view::View;
 use scale::view::bottom;
-use svg::Frame;
-use svg::put_after;
-use svg::put_end;
-use svg::put_frame;
-use svg::put_start;
+use svg::form::put_form;
+use svg::form::row_in;
 use words::put_text;
 
 // Bit 4 is written B in tiles, and O in directions.
@@ -27,84 +24,79 @@ fn put_words_of(out: &mut [u8], at: usize, middle: u8, set: u16) -> usize {
     put_set(out, at, middle, set)
 }
 
-fn put_heading(out: &mut [u8], from: usize, y: u16, primary: u16, reference: u16) -> usize {
-    let at = put_start(out, from, 200, y, b"font-size='340' font-weight='bold'");
-    let at = put_after(out, at, b"Parcel ", primary);
-    let at = put_after(out, at, b" seen from parcel ", reference);
-    put_end(out, at)
-}
-
-fn put_sets(out: &mut [u8], from: usize, y: u16, text: &[u8], middle: u8, set: u16) -> usize {
-    let at = put_start(out, from, 200, y, b"");
-    let at = put_text(out, at, text);
-    let at = put_words_of(out, at, middle, set);
-    put_end(out, at)
-}
-
-fn put_pieces(out: &mut [u8], from: usize, y: u16, pieces: u16) -> usize {
-    let at = put_start(out, from, 200, y, b"");
-    let at = put_after(out, at, b"Pieces: ", pieces);
-    put_end(out, at)
-}
-
-fn put_around(
+// Four lines: the two parcels, tiles, directions and pieces.
+fn put_relation(
     out: &mut [u8],
     from: usize,
-    y: u16,
+    v: View,
     primary: u16,
     reference: u16,
     a: Answer,
 ) -> usize {
-    if !around(a) {
-        return from;
-    }
-    let at = put_start(out, from, 200, y, b"font-weight='bold'");
-    let at = put_after(out, at, b"Parcel ", primary);
-    let at = put_after(out, at, b" lies around parcel ", reference);
-    put_end(out, at)
-}
-
-// The look of a cell by its value: the colours of the two parcels, and what they make together.
-fn put_ground(out: &mut [u8], at: usize, f: Frame, value: u8) -> usize {
-    match value {
-        1 => put_frame(out, at, f, b"fill='#f3d08a'"),
-        2 => put_frame(out, at, f, b"fill='#abd9f4'"),
-        3 => put_frame(out, at, f, b"fill='#c9b98a'"),
-        _ => put_frame(out, at, f, b"fill='#ffffff'"),
-    }
-}
-
-// Where the cell of a row and a column stands, in a matrix that begins at the height y.
-fn cell_frame(y: u16, row: usize, column: usize) -> Frame {
-    Frame {
-        x: moved(6900, column),
-        y: moved(y, row),
-        width: 560,
-        height: 560,
-    }
-}
-
-fn moved(from: u16, cells: usize) -> u16 {
-    if 60000 < from {
-        return from;
-    }
-    match cells {
-        0 => from,
-        1 => from + 560,
-        _ => from + 1120,
-    }
-}
-
-fn put_value(out: &mut [u8], from: usize, f: Frame, value: u8) -> usize {
-    let at = put_start(
+    let y = bottom(v);
+    let at = put_form(
         out,
         from,
-        added(f.x, 280),
-        added(f.y, 385),
-        b"text-anchor='middle' font-size='300' stroke='none'",
+        b"<text x='200' y='@' font-size='340' font-weight='bold'>Parcel @ seen from parcel @</text>\n\
+        <text x='200' y='@' >Tiles: ",
+        &[y + 1250, primary, reference, y + 1780],
     );
-    let at = put_after(out, at, b"", value as u16);
-    put_end(out, at)
+    let at = put_words_of(out, at, TILES_MIDDLE, a.first);
+    let at = put_form(
+        out,
+        at,
+        b"</text>\n<text x='200' y='@' >Directions: ",
+        &[y + 2200],
+    );
+    let at = put_words_of(out, at, DIRECTIONS_MIDDLE, a.directions);
+    put_form(
+        out,
+        at,
+        b"</text>\n<text x='200' y='@' >Pieces: @</text>\n",
+        &[y + 2620, a.first_pieces],
+    )
+}
+
+fn put_around(out: &mut [u8], at: usize, y: u16, primary: u16, reference: u16, a: Answer) -> usize {
+    if !around(a) {
+        return at;
+    }
+    put_form(
+        out,
+        at,
+        b"<text x='200' y='@' font-weight='bold'>Parcel @ lies around parcel @</text>\n",
+        &[y, primary, reference],
+    )
+}
+
+// A cell of the matrix with its value in the middle. Its ground is white, of the colours of the two parcels, or what they make together.
+fn put_value(out: &mut [u8], from: usize, x: u16, y: u16, value: u8) -> usize {
+    let at = put_form(
+        out,
+        from,
+        b"<rect x='@' y='@' width='560' height='560' fill='#",
+        &[x, y],
+    );
+    let at = put_text(
+        out,
+        at,
+        row_in(b"ffffff\nf3d08a\nabd9f4\nc9b98a\n", value as usize),
+    );
+    put_form(
+        out,
+        at,
+        b"'/>\n<text x='@' y='@' text-anchor='middle' font-size='300' stroke='none'>@</text>\n",
+        &[added(x, 280), added(y, 385), value as u16],
+    )
+}
+
+// Where so many cells from a place on end.
+fn moved(from: u16, cells: usize) -> u16 {
+    match cells {
+        0 => from,
+        1 => added(from, 560),
+        _ => added(from, 1120),
+    }
 }
 
 fn added(a: u16, b: u16) -> u16 {
@@ -118,23 +110,20 @@ fn added(a: u16, b: u16) -> u16 {
 }
 
 // Cell k of nine, by row; only those of the matrix's own rows and columns are drawn.
-fn put_cell(out: &mut [u8], from: usize, y: u16, a: Answer, k: usize) -> usize {
+fn put_cell(out: &mut [u8], at: usize, y: u16, a: Answer, k: usize) -> usize {
     if 9 <= k {
-        return from;
+        return at;
     }
     let row = k / 3;
     let column = k % 3;
     if a.rows as usize <= row {
-        return from;
+        return at;
     }
     if a.columns as usize <= column {
-        return from;
+        return at;
     }
     let cells = a.cells;
-    let value = cells[k];
-    let f = cell_frame(y, row, column);
-    let at = put_ground(out, from, f, value);
-    put_value(out, at, f, value)
+    put_value(out, at, moved(6900, column), moved(y, row), cells[k])
 }
 
 fn put_matrix(out: &mut [u8], from: usize, y: u16, a: Answer) -> usize {
@@ -148,12 +137,13 @@ fn put_matrix(out: &mut [u8], from: usize, y: u16, a: Answer) -> usize {
 }
 
 // What the values of the matrix stand for.
-fn put_legend(out: &mut [u8], from: usize, y: u16, primary: u16, reference: u16) -> usize {
-    let at = put_start(out, from, 7740, y, b"text-anchor='middle' font-size='240'");
-    let at = put_after(out, at, b"1: parcel ", primary);
-    let at = put_after(out, at, b", 2: parcel ", reference);
-    let at = put_text(out, at, b", 3: both");
-    put_end(out, at)
+fn put_legend(out: &mut [u8], at: usize, y: u16, primary: u16, reference: u16) -> usize {
+    put_form(
+        out,
+        at,
+        b"<text x='7740' y='@' text-anchor='middle' font-size='240'>1: parcel @, 2: parcel @, 3: both</text>\n",
+        &[y, primary, reference],
+    )
 }
 
 pub fn put_answer(
@@ -165,17 +155,7 @@ pub fn put_answer(
     a: Answer,
 ) -> usize {
     let y = bottom(v);
-    let at = put_heading(out, from, y + 1250, primary, reference);
-    let at = put_sets(out, at, y + 1780, b"Tiles: ", TILES_MIDDLE, a.first);
-    let at = put_sets(
-        out,
-        at,
-        y + 2200,
-        b"Directions: ",
-        DIRECTIONS_MIDDLE,
-        a.directions,
-    );
-    let at = put_pieces(out, at, y + 2620, a.first_pieces);
+    let at = put_relation(out, from, v, primary, reference, a);
     let at = put_around(out, at, y + 3040, primary, reference, a);
     let at = put_matrix(out, at, y + 980, a);
     put_legend(out, at, y + 3040, primary, reference)

@@ -3,31 +3,16 @@ ghost use Prim.Native.Nat.{_≤_};
 use scale::view::View;
 use scale::view::bottom;
 use scale::view::tenths;
-use svg::Frame;
-use svg::put_after;
-use svg::put_end;
-use svg::put_frame;
-use svg::put_line;
-use svg::put_start;
-use svg::put_words;
+use svg::form::put_form;
 use words::put_natural;
 use words::put_text;
 
-pub fn frame_of(v: View) -> Frame {
-    Frame {
-        x: 200,
-        y: 200,
-        width: 9200,
-        height: v.height,
-    }
-}
-
 pub fn put_edge(out: &mut [u8], at: usize, v: View) -> usize {
-    put_frame(
+    put_form(
         out,
         at,
-        frame_of(v),
-        b"fill='none' stroke='#555555' stroke-width='15'",
+        b"<rect x='200' y='200' width='9200' height='@' fill='none' stroke='#555555' stroke-width='15'/>\n",
+        &[v.height],
     )
 }
 
@@ -76,36 +61,35 @@ fn longer(best: u64, length: u64, v: View) -> u64 {
     length
 }
 
+// The bar, with its length beside it.
 pub fn put_bar(out: &mut [u8], from: usize, v: View) -> usize {
     let length = bar_length(v);
     let y = bottom(v) + 380;
-    let bar = Frame {
-        x: 200,
-        y,
-        width: tenths(length, v.span),
-        height: 0,
-    };
-    let at = put_line(out, from, bar, b"stroke='#1b1b1b' stroke-width='60'");
-    let at = put_start(out, at, 200 + tenths(length, v.span) + 150, y + 90, b"");
+    let width = tenths(length, v.span);
+    let at = put_form(
+        out,
+        from,
+        b"<path d='M200 @l@ 0' stroke='#1b1b1b' stroke-width='60'/>\n<text x='@' y='@' >",
+        &[y, width, 200 + width + 150, y + 90],
+    );
     let at = put_natural(out, at, length);
-    let at = put_unit(out, at, length);
-    put_end(out, at)
+    put_unit(out, at, length)
 }
 
 fn put_unit(out: &mut [u8], at: usize, length: u64) -> usize {
     if length == 1 {
-        return put_text(out, at, b" unit");
+        return put_text(out, at, b" unit</text>\n");
     }
-    put_text(out, at, b" units")
+    put_text(out, at, b" units</text>\n")
 }
 
-pub fn put_north(out: &mut [u8], from: usize, v: View) -> usize {
+pub fn put_north(out: &mut [u8], at: usize, v: View) -> usize {
     let y = bottom(v);
-    let at = put_after(out, from, b"<path d='M9260 ", y + 620);
-    let at = put_text(
+    put_form(
         out,
         at,
-        b"v-470m-90 140 90-150 90 150' fill='none' stroke='#1b1b1b' stroke-width='35'/>\n",
-    );
-    put_words(out, at, 8960, y + 470, b"text-anchor='middle'", b"N")
+        b"<path d='M9260 @v-470m-90 140 90-150 90 150' fill='none' stroke='#1b1b1b' stroke-width='35'/>\n\
+        <text x='8960' y='@' text-anchor='middle'>N</text>\n",
+        &[y + 620, y + 470],
+    )
 }

@@ -6,9 +6,7 @@ use scale::shape::at;
 use scale::shape::between;
 use scale::shape::end_before;
 use scale::shape::stroke_at;
-use svg::put_after;
-use svg::put_end;
-use svg::put_start;
+use svg::form::put_form;
 
 // A stretch of a level line: its middle and how wide it is.
 struct Stretch {
@@ -143,10 +141,8 @@ fn label_of(s: Shape) -> Stretch {
 }
 
 // The slot in the middle of the place that its label has.
-pub fn put_label(out: &mut [u8], from: usize, s: Shape) -> usize {
+pub fn put_label(out: &mut [u8], at: usize, s: Shape) -> usize {
     let l = label_of(s);
     let y = if l.y < 60000 { l.y + 90 } else { l.y };
-    let at = put_start(out, from, l.x, y, b"");
-    let at = put_after(out, at, b"", s.slot);
-    put_end(out, at)
+    put_form(out, at, b"<text x='@' y='@' >@</text>\n", &[l.x, y, s.slot])
 }

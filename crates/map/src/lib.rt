@@ -16,9 +16,7 @@ use scale::view::extent_of;
 use scale::view::joined;
 use scale::view::nothing;
 use scale::view::view_of;
-use svg::put_after;
 use svg::put_foot;
-use svg::put_ground;
 use svg::put_head;
 use words::put_text;
 
@@ -54,13 +52,11 @@ pub fn put_labels(out: &mut [u8], from: usize, card: &[u8], v: View) -> usize
     at
 }
 
-// All parcels, with the look that they have in common: their outline's, and how far they let the ground through.
-pub fn put_filled(out: &mut [u8], from: usize, card: &[u8], v: View, look: &[u8]) -> usize
+// All parcels, in a group whose start says what they have in common: the look of their outlines, and how far they let the ground through.
+pub fn put_filled(out: &mut [u8], from: usize, card: &[u8], v: View, start: &[u8]) -> usize
     requires { ⌜ cardNumber (now card) ≡ 0 ⌝ }
 {
-    let at = put_text(out, from, b"<g stroke-linejoin='round' ");
-    let at = put_text(out, at, look);
-    let at = put_text(out, at, b">\n");
+    let at = put_text(out, from, start);
     let at = put_parcels(out, at, card, v);
     put_text(out, at, b"</g>\n")
 }
@@ -78,21 +74,6 @@ pub fn put_named(out: &mut [u8], from: usize, card: &[u8], v: View) -> usize
     put_text(out, at, b"</g>\n")
 }
 
-fn put_title(out: &mut [u8], from: usize, parcels: u16) -> usize {
-    let at = put_after(out, from, b"<title>Map of parcels: ", parcels);
-    put_text(
-        out,
-        at,
-        b"</title>\n<desc>Each parcel is filled and labelled with its slot. North is up. A bar shows a length in map units.</desc>\n",
-    )
-}
-
-fn put_opening(out: &mut [u8], parcels: u16, height: u16) -> usize {
-    let at = put_head(out, 0, height);
-    let at = put_title(out, at, parcels);
-    put_ground(out, at, height)
-}
-
 // Frame, bar and arrow.
 pub fn put_furniture(out: &mut [u8], from: usize, v: View) -> usize {
     let at = put_edge(out, from, v);
@@ -105,8 +86,20 @@ pub fn put_map(out: &mut [u8], card: &[u8]) -> usize
     requires { ⌜ cardNumber (now card) ≡ 0 ⌝ }
 {
     let v = view_of(extent_of_card(card));
-    let at = put_opening(out, fields_on(card) as u16, bottom(v) + 900);
-    let at = put_filled(out, at, card, v, b"stroke='#3a3a3a' stroke-width='20'");
+    let at = put_head(
+        out,
+        bottom(v) + 900,
+        b"<title>Map of parcels: @</title>\n\
+        <desc>Each parcel is filled and labelled with its slot. North is up. A bar shows a length in map units.</desc>\n",
+        &[fields_on(card) as u16],
+    );
+    let at = put_filled(
+        out,
+        at,
+        card,
+        v,
+        b"<g stroke-linejoin='round' stroke='#3a3a3a' stroke-width='20'>\n",
+    );
     let at = put_furniture(out, at, v);
     let at = put_named(out, at, card, v);
     put_foot(out, at)

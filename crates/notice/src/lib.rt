@@ -1,130 +1,111 @@
 // A picture that says why there is no map: the number that refuses a card, what it means and what helps (docs/NUMBERS.md); or what is wrong
 // with the slots that were asked for.
-use svg::put_after;
-use svg::put_end;
+use svg::form::put_form;
+use svg::form::row_in;
 use svg::put_foot;
-use svg::put_ground;
 use svg::put_head;
-use svg::put_start;
-use svg::put_words;
 use words::put_text;
 
 const HEIGHT: u16 = 2600;
 
-// A line of text, the first, second or third.
-fn put_line(out: &mut [u8], at: usize, y: u16, text: &[u8]) -> usize {
-    put_words(out, at, 400, y, b"", text)
-}
-
+// Two lines of text.
 fn put_two(out: &mut [u8], from: usize, first: &[u8], second: &[u8]) -> usize {
-    let at = put_line(out, from, 1350, first);
-    put_line(out, at, 1850, second)
+    let at = put_text(out, from, b"<text x='400' y='1350' >");
+    let at = put_text(out, at, first);
+    let at = put_text(out, at, b"</text>\n<text x='400' y='1850' >");
+    let at = put_text(out, at, second);
+    put_text(out, at, b"</text>\n")
 }
 
-// What a number says of a card, and what helps.
-fn put_help(out: &mut [u8], at: usize, number: u16) -> usize {
+const NO_ROW: usize = 18;
+
+// Where the two rows of a number stand in the table of `put_help`.
+fn row_of(number: u16) -> usize {
     match number {
-        2 => put_two(
-            out,
-            at,
-            b"A ring has fewer than 3 vertices, or the ring ends do not rise.",
-            b"Draw the ring anew.",
-        ),
-        3 => put_two(
-            out,
-            at,
-            b"A parcel has more than 64 vertices.",
-            b"Draw it as two parcels, in two slots.",
-        ),
-        4 => put_two(
-            out,
-            at,
-            b"A coordinate lies outside -1,000,000 to 1,000,000.",
-            b"The map's corner, or its unit, is wrong.",
-        ),
-        5 => put_two(
-            out,
-            at,
-            b"Two vertices that follow each other are the same.",
-            b"Leave one out; the first is not repeated at the end.",
-        ),
-        6 => put_two(
-            out,
-            at,
-            b"A ring crosses or touches itself, or turns back on itself.",
-            b"Move a vertex; a figure of eight is two rings.",
-        ),
-        7 => put_two(
-            out,
-            at,
-            b"A ring does not run clockwise.",
-            b"Enter its vertices the other way round.",
-        ),
-        14 => put_two(
-            out,
-            at,
-            b"The header counts or places something wrongly, or the length is wrong.",
-            b"The card is cut off, or it is no card.",
-        ),
-        15 => put_two(
-            out,
-            at,
-            b"Slots do not rise from 0 to 31, or rings do not add up.",
-            b"The card was made wrongly.",
-        ),
-        16 => put_two(
-            out,
-            at,
-            b"The vertices do not add up.",
-            b"The card was made wrongly.",
-        ),
-        _ => put_line(
-            out,
-            at,
-            1350,
-            b"docs/NUMBERS.md says what the number means.",
-        ),
+        2 => 0,
+        3 => 2,
+        4 => 4,
+        5 => 6,
+        6 => 8,
+        7 => 10,
+        14 => 12,
+        15 => 14,
+        16 => 16,
+        _ => NO_ROW,
     }
 }
 
-fn put_opening(out: &mut [u8], title: &[u8]) -> usize {
-    let at = put_head(out, 0, HEIGHT);
-    let at = put_text(out, at, b"<title>");
-    let at = put_text(out, at, title);
-    let at = put_text(
-        out,
-        at,
-        b"</title>\n<desc>There is no map; the text says why, and what helps.</desc>\n",
-    );
-    put_ground(out, at, HEIGHT)
+// What a number says of a card, and what helps: two rows of the table.
+fn put_help(out: &mut [u8], at: usize, number: u16) -> usize {
+    let row = row_of(number);
+    if NO_ROW <= row {
+        return put_text(
+            out,
+            at,
+            b"<text x='400' y='1350' >docs/NUMBERS.md says what the number means.</text>\n",
+        );
+    }
+    let table = b"A ring has fewer than 3 vertices, or the ring ends do not rise.\n\
+        Draw the ring anew.\n\
+        A parcel has more than 64 vertices.\n\
+        Draw it as two parcels, in two slots.\n\
+        A coordinate lies outside -1,000,000 to 1,000,000.\n\
+        The map's corner, or its unit, is wrong.\n\
+        Two vertices that follow each other are the same.\n\
+        Leave one out; the first is not repeated at the end.\n\
+        A ring crosses or touches itself, or turns back on itself.\n\
+        Move a vertex; a figure of eight is two rings.\n\
+        A ring does not run clockwise.\n\
+        Enter its vertices the other way round.\n\
+        The header counts or places something wrongly, or the length is wrong.\n\
+        The card is cut off, or it is no card.\n\
+        Slots do not rise from 0 to 31, or rings do not add up.\n\
+        The card was made wrongly.\n\
+        The vertices do not add up.\n\
+        The card was made wrongly.\n";
+    put_two(out, at, row_in(table, row), row_in(table, row + 1))
 }
 
 // The picture of a card that is refused with this number.
 pub fn put_refusal(out: &mut [u8], number: u16) -> usize {
-    let at = put_opening(out, b"A card that is refused");
-    let at = put_start(out, at, 400, 750, b"font-size='360' font-weight='bold'");
-    let at = put_after(out, at, b"This card is refused: number ", number);
-    let at = put_end(out, at);
+    let at = put_head(
+        out,
+        HEIGHT,
+        b"<title>A card that is refused</title>\n\
+        <desc>There is no map; the text says why, and what helps.</desc>\n",
+        &[],
+    );
+    let at = put_form(
+        out,
+        at,
+        b"<text x='400' y='750' font-size='360' font-weight='bold'>This card is refused: number @</text>\n",
+        &[number],
+    );
     let at = put_help(out, at, number);
     put_foot(out, at)
 }
 
 // The picture for slots that cannot be shown.
 fn put_notice(out: &mut [u8], text: &[u8]) -> usize {
-    let at = put_opening(out, b"Slots that cannot be shown");
-    let at = put_words(
+    let at = put_head(
         out,
-        at,
-        400,
-        750,
-        b"font-size='360' font-weight='bold'",
-        text,
+        HEIGHT,
+        b"<title>Slots that cannot be shown</title>\n\
+        <desc>There is no map; the text says why, and what helps.</desc>\n",
+        &[],
     );
-    let at = put_two(
+    let at = put_text(
         out,
         at,
-        b"Without slots the whole map is drawn. With two slots, as 0 3,",
-        b"the parcel in the first is seen from the parcel in the second.",
+        b"<text x='400' y='750' font-size='360' font-weight='bold'>",
+    );
+    let at = put_text(out, at, text);
+    let at = put_text(
+        out,
+        at,
+        b"</text>\n\
+        <text x='400' y='1350' >Without slots the whole map is drawn. With two slots, as 0 3,</text>\n\
+        <text x='400' y='1850' >the parcel in the first is seen from the parcel in the second.</text>\n",
     );
     put_foot(out, at)
 }

@@ -12,7 +12,7 @@ use scale::view::View;
 use scale::view::place_at;
 use scale::view::x_of;
 use scale::view::y_of;
-use svg::put_spot;
+use svg::form::put_form;
 use words::put_text;
 
 // Does the line l lie strictly between a and b?
@@ -53,7 +53,7 @@ fn at_corner(g: Edge, x: u64, y: u64) -> bool {
 }
 
 fn put_cut(out: &mut [u8], at: usize, x: u16, y: u16) -> usize {
-    put_spot(out, at, x, y, b"r='75'")
+    put_form(out, at, b"<circle cx='@' cy='@' r='75'/>\n", &[x, y])
 }
 
 // Where an upright line cuts the edge.

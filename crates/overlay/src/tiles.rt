@@ -5,11 +5,7 @@ use scale::view::View;
 use scale::view::bottom;
 use scale::view::x_of;
 use scale::view::y_of;
-use svg::Frame;
-use svg::put_after;
-use svg::put_frame;
-use svg::put_line;
-use svg::put_words;
+use svg::form::put_form;
 use words::put_text;
 
 const LEFT: u16 = 200;
@@ -17,6 +13,14 @@ const LEFT: u16 = 200;
 const RIGHT: u16 = 9400;
 
 const TOP: u16 = 200;
+
+// A rectangle by its upper left corner and its size.
+struct Frame {
+    x: u16,
+    y: u16,
+    width: u16,
+    height: u16,
+}
 
 // How far b lies beyond a.
 fn reach(a: u16, b: u16) -> u16 {
@@ -36,37 +40,27 @@ fn middle(a: u16, b: u16) -> u16
     a + (b - a) / 2
 }
 
-fn put_upright(out: &mut [u8], at: usize, v: View, x: u16) -> usize {
-    let line = Frame {
-        x,
-        y: TOP,
-        width: 0,
-        height: reach(TOP, bottom(v)),
-    };
-    put_line(out, at, line, b"")
-}
-
-fn put_level(out: &mut [u8], at: usize, y: u16) -> usize {
-    let line = Frame {
-        x: LEFT,
-        y,
-        width: 9200,
-        height: 0,
-    };
-    put_line(out, at, line, b"")
-}
-
-pub fn put_lines(out: &mut [u8], from: usize, v: View, b: Extent) -> usize {
-    let at = put_text(
+// Two lines from top to bottom, and two from left to right.
+pub fn put_lines(out: &mut [u8], at: usize, v: View, b: Extent) -> usize {
+    let height = reach(TOP, bottom(v));
+    put_form(
         out,
-        from,
-        b"<g stroke='#0b3d91' stroke-width='25' stroke-dasharray='120 70'>\n",
-    );
-    let at = put_upright(out, at, v, x_of(v, b.west));
-    let at = put_upright(out, at, v, x_of(v, b.east));
-    let at = put_level(out, at, y_of(v, b.north));
-    let at = put_level(out, at, y_of(v, b.south));
-    put_text(out, at, b"</g>\n")
+        at,
+        b"<g stroke='#0b3d91' stroke-width='25' stroke-dasharray='120 70'>\n\
+        <path d='M@ 200l0 @' />\n\
+        <path d='M@ 200l0 @' />\n\
+        <path d='M200 @l9200 0' />\n\
+        <path d='M200 @l9200 0' />\n\
+        </g>\n",
+        &[
+            x_of(v, b.west),
+            height,
+            x_of(v, b.east),
+            height,
+            y_of(v, b.north),
+            y_of(v, b.south),
+        ],
+    )
 }
 
 // Where column c of tiles begins, and where row r does; the fourth is the end.
@@ -102,10 +96,19 @@ fn tile_frame(v: View, b: Extent, t: u16) -> Frame {
     }
 }
 
+fn put_frame(out: &mut [u8], at: usize, f: Frame) -> usize {
+    put_form(
+        out,
+        at,
+        b"<rect x='@' y='@' width='@' height='@' />\n",
+        &[f.x, f.y, f.width, f.height],
+    )
+}
+
 fn put_tint(out: &mut [u8], at: usize, v: View, b: Extent, set: u16, t: u16) -> usize {
     if t < 9 {
         if (set >> t) % 2 == 1 {
-            return put_frame(out, at, tile_frame(v, b, t), b"");
+            return put_frame(out, at, tile_frame(v, b, t));
         }
     }
     at
@@ -126,45 +129,55 @@ fn put_box_name(out: &mut [u8], at: usize, v: View, b: Extent) -> usize {
     if is_small(tile_frame(v, b, 4)) {
         return put_name_beside(out, at, x_of(v, b.east), y_of(v, b.north));
     }
-    let x = x_of(v, b.west) + 120;
-    put_words(
+    put_form(
         out,
         at,
-        x,
-        y_of(v, b.north) + 330,
-        b"text-anchor='start'",
-        b"B",
+        b"<text x='@' y='@' text-anchor='start'>B</text>\n",
+        &[x_of(v, b.west) + 120, y_of(v, b.north) + 330],
     )
 }
 
-fn put_name_beside(out: &mut [u8], from: usize, x: u16, y: u16) -> usize
+fn put_name_beside(out: &mut [u8], at: usize, x: u16, y: u16) -> usize
     requires { ⌜ x ≤ 60000 ⌝ }
 {
-    let at = put_after(out, from, b"<path d='M", x);
-    let at = put_after(out, at, b" ", y);
-    let at = put_text(out, at, b"l190-120' stroke='#0b3d91' stroke-width='25'/>\n");
-    put_words(out, at, x + 210, reach(90, y), b"text-anchor='start'", b"B")
+    put_form(
+        out,
+        at,
+        b"<path d='M@ @l190-120' stroke='#0b3d91' stroke-width='25'/>\n\
+        <text x='@' y='@' text-anchor='start'>B</text>\n",
+        &[x, y, x + 210, reach(90, y)],
+    )
 }
 
 fn is_small(f: Frame) -> bool {
     f.width < 900 || f.height < 900
 }
 
-fn put_sides(out: &mut [u8], from: usize, v: View, b: Extent) -> usize {
+fn put_sides(out: &mut [u8], at: usize, v: View, b: Extent) -> usize {
     let x = middle(x_of(v, b.west), x_of(v, b.east));
-    let y = middle(y_of(v, b.north), y_of(v, b.south));
-    let at = put_words(out, from, x, 510, b"", b"N");
-    let at = put_words(out, at, 520, y + 100, b"", b"W");
-    let at = put_words(out, at, 9080, y + 100, b"", b"E");
-    put_words(out, at, x, reach(160, bottom(v)), b"", b"S")
+    let y = middle(y_of(v, b.north), y_of(v, b.south)) + 100;
+    put_form(
+        out,
+        at,
+        b"<text x='@' y='510' >N</text>\n\
+        <text x='520' y='@' >W</text>\n\
+        <text x='9080' y='@' >E</text>\n\
+        <text x='@' y='@' >S</text>\n",
+        &[x, y, y, x, reach(160, bottom(v))],
+    )
 }
 
-fn put_corners(out: &mut [u8], from: usize, v: View) -> usize {
+fn put_corners(out: &mut [u8], at: usize, v: View) -> usize {
     let y = reach(160, bottom(v));
-    let at = put_words(out, from, 520, 510, b"", b"NW");
-    let at = put_words(out, at, 9080, 510, b"", b"NE");
-    let at = put_words(out, at, 520, y, b"", b"SW");
-    put_words(out, at, 9080, y, b"", b"SE")
+    put_form(
+        out,
+        at,
+        b"<text x='520' y='510' >NW</text>\n\
+        <text x='9080' y='510' >NE</text>\n\
+        <text x='520' y='@' >SW</text>\n\
+        <text x='9080' y='@' >SE</text>\n",
+        &[y, y],
+    )
 }
 
 // The names stand where the map has no parcel: along the frame.

@@ -23,26 +23,19 @@ use scale::view::View;
 use scale::view::bottom;
 use scale::view::extent_of;
 use scale::view::view_of;
-use svg::put_after;
 use svg::put_foot;
-use svg::put_ground;
 use svg::put_head;
 use words::put_text;
 
-fn put_title(out: &mut [u8], from: usize, primary: u16, reference: u16) -> usize {
-    let at = put_after(out, from, b"<title>Parcel ", primary);
-    let at = put_after(out, at, b" seen from parcel ", reference);
-    put_text(
-        out,
-        at,
-        b"</title>\n<desc>The lines of the second parcel's box cut the map into nine tiles; those that the first lies in are tinted. Circles mark where the lines cut its edges. Below stand tiles, directions, pieces and matrix.</desc>\n",
-    )
-}
-
 fn put_opening(out: &mut [u8], primary: u16, reference: u16, height: u16) -> usize {
-    let at = put_head(out, 0, height);
-    let at = put_title(out, at, primary, reference);
-    put_ground(out, at, height)
+    put_head(
+        out,
+        height,
+        b"<title>Parcel @ seen from parcel @</title>\n\
+        <desc>The lines of the second parcel's box cut the map into nine tiles; those that the first lies in are tinted. \
+        Circles mark where the lines cut its edges. Below stand tiles, directions, pieces and matrix.</desc>\n",
+        &[primary, reference],
+    )
 }
 
 // The two parcels, above the pale map.
@@ -89,7 +82,7 @@ fn put_pale(out: &mut [u8], from: usize, card: &[u8], v: View, b: Extent, set: u
         from,
         card,
         v,
-        b"stroke='#9a9a9a' stroke-width='15' fill-opacity='0.3'",
+        b"<g stroke-linejoin='round' stroke='#9a9a9a' stroke-width='15' fill-opacity='0.3'>\n",
     );
     let at = put_tints(out, at, v, b, set);
     put_furniture(out, at, v)
