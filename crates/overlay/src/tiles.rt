@@ -96,22 +96,21 @@ fn tile_frame(v: View, b: Extent, t: u16) -> Frame {
     }
 }
 
-fn put_frame(out: &mut [u8], at: usize, f: Frame) -> usize {
+// Tile t, where it is in the set.
+fn put_tint(out: &mut [u8], at: usize, v: View, b: Extent, set: u16, t: u16) -> usize {
+    if 9 <= t {
+        return at;
+    }
+    if (set >> t) % 2 == 0 {
+        return at;
+    }
+    let f = tile_frame(v, b, t);
     put_form(
         out,
         at,
         b"<rect x='@' y='@' width='@' height='@' />\n",
         &[f.x, f.y, f.width, f.height],
     )
-}
-
-fn put_tint(out: &mut [u8], at: usize, v: View, b: Extent, set: u16, t: u16) -> usize {
-    if t < 9 {
-        if (set >> t) % 2 == 1 {
-            return put_frame(out, at, tile_frame(v, b, t));
-        }
-    }
-    at
 }
 
 pub fn put_tints(out: &mut [u8], from: usize, v: View, b: Extent, set: u16) -> usize {
@@ -167,27 +166,19 @@ fn put_sides(out: &mut [u8], at: usize, v: View, b: Extent) -> usize {
     )
 }
 
-fn put_corners(out: &mut [u8], at: usize, v: View) -> usize {
+// The names stand where the map has no parcel: along the frame.
+pub fn put_names(out: &mut [u8], from: usize, v: View, b: Extent) -> usize {
     let y = reach(160, bottom(v));
-    put_form(
+    let at = put_form(
         out,
-        at,
-        b"<text x='520' y='510' >NW</text>\n\
+        from,
+        b"<g fill='#0b3d91' font-size='300' font-weight='bold' text-anchor='middle' stroke='#ffffff' stroke-width='60' paint-order='stroke'>\n\
+        <text x='520' y='510' >NW</text>\n\
         <text x='9080' y='510' >NE</text>\n\
         <text x='520' y='@' >SW</text>\n\
         <text x='9080' y='@' >SE</text>\n",
         &[y, y],
-    )
-}
-
-// The names stand where the map has no parcel: along the frame.
-pub fn put_names(out: &mut [u8], from: usize, v: View, b: Extent) -> usize {
-    let at = put_text(
-        out,
-        from,
-        b"<g fill='#0b3d91' font-size='300' font-weight='bold' text-anchor='middle' stroke='#ffffff' stroke-width='60' paint-order='stroke'>\n",
     );
-    let at = put_corners(out, at, v);
     let at = put_sides(out, at, v, b);
     let at = put_box_name(out, at, v, b);
     put_text(out, at, b"</g>\n")

@@ -57,10 +57,7 @@ fn draw_asked(card: &[u8], out: &mut [u8]) -> usize
     }
     let primary = slot_asked(1);
     let reference = slot_asked(2);
-    if primary == NO_SLOT {
-        return put_no_slot(out);
-    }
-    if reference == NO_SLOT {
+    if primary == NO_SLOT || reference == NO_SLOT {
         return put_no_slot(out);
     }
     draw_two(card, out, primary, reference)

@@ -81,27 +81,27 @@ fn put_path(out: &mut [u8], from: usize, s: Shape) -> usize
     put_text(out, at, b"' ")
 }
 
-// A parcel with a look of its own.
+// A parcel with a look of its own, with which the element ends.
 pub fn put_outline(out: &mut [u8], from: usize, s: Shape, look: &[u8]) -> usize {
     let at = put_path(out, from, s);
-    let at = put_text(out, at, look);
-    put_text(out, at, b"/>\n")
+    put_text(out, at, look)
 }
 
-// Eight fills that differ in lightness as well as in colour, so that slots that follow each other are told apart in grey too.
+// Eight fills of 13 bytes that differ in lightness as well as in colour, so that slots that follow each other are told apart in grey too.
 fn put_fill(out: &mut [u8], at: usize, slot: u16) -> usize
     ensures { λ r. ⌜ Wrote (now (out .entry)) at (fillAt (slot % 8)) r (now (out .exit)) ⌝ }
 {
-    match slot % 8 {
-        0 => put_text(out, at, b"fill='#f0e08a"),
-        1 => put_text(out, at, b"fill='#7db4d8"),
-        2 => put_text(out, at, b"fill='#f6c6a4"),
-        3 => put_text(out, at, b"fill='#8fbf8f"),
-        4 => put_text(out, at, b"fill='#d9d9e8"),
-        5 => put_text(out, at, b"fill='#d99a5b"),
-        6 => put_text(out, at, b"fill='#cdebe0"),
-        _ => put_text(out, at, b"fill='#c39bc9"),
-    }
+    let fills = *b"fill='#f0e08a\
+        fill='#7db4d8\
+        fill='#f6c6a4\
+        fill='#8fbf8f\
+        fill='#d9d9e8\
+        fill='#d99a5b\
+        fill='#cdebe0\
+        fill='#c39bc9";
+    let start = (slot % 8) as usize * 13;
+    let end = start + 13;
+    put_text(out, at, &fills[start..end])
 }
 
 // A parcel of the map, with the fill of its slot.

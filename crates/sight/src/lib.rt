@@ -17,6 +17,7 @@ use overlay::tiles::put_names;
 use overlay::tiles::put_tints;
 use pair::Answer;
 use plot::put_outline;
+use scale::shape::Shape;
 use scale::shape::shape_of;
 use scale::view::Extent;
 use scale::view::View;
@@ -39,18 +40,18 @@ fn put_opening(out: &mut [u8], primary: u16, reference: u16, height: u16) -> usi
 }
 
 // The two parcels, above the pale map.
-fn put_two(out: &mut [u8], from: usize, v: View, p: Field, q: Field) -> usize {
+fn put_two(out: &mut [u8], from: usize, primary: Shape, reference: Shape) -> usize {
     let at = put_outline(
         out,
         from,
-        shape_of(v, q),
-        b"fill='#56b4e9' fill-opacity='0.5' stroke='#0b3d91' stroke-width='40' stroke-linejoin='round'",
+        reference,
+        b"fill='#56b4e9' fill-opacity='0.5' stroke='#0b3d91' stroke-width='40' stroke-linejoin='round'/>\n",
     );
     put_outline(
         out,
         at,
-        shape_of(v, p),
-        b"fill='#e69f00' fill-opacity='0.5' stroke='#7a3b00' stroke-width='40' stroke-linejoin='round'",
+        primary,
+        b"fill='#e69f00' fill-opacity='0.5' stroke='#7a3b00' stroke-width='40' stroke-linejoin='round'/>\n",
     )
 }
 
@@ -62,14 +63,14 @@ fn put_marks(out: &mut [u8], from: usize, v: View, p: Field, b: Extent) -> usize
 }
 
 // The labels of the two parcels.
-fn put_labels(out: &mut [u8], from: usize, v: View, p: Field, q: Field) -> usize {
+fn put_labels(out: &mut [u8], from: usize, primary: Shape, reference: Shape) -> usize {
     let at = put_text(
         out,
         from,
         b"<g text-anchor='middle' font-weight='bold' stroke='#ffffff' stroke-width='60' stroke-linejoin='round' paint-order='stroke'>\n",
     );
-    let at = put_label(out, at, shape_of(v, q));
-    let at = put_label(out, at, shape_of(v, p));
+    let at = put_label(out, at, reference);
+    let at = put_label(out, at, primary);
     put_text(out, at, b"</g>\n")
 }
 
@@ -93,11 +94,13 @@ fn put_scene(out: &mut [u8], card: &[u8], v: View, p: Field, q: Field, a: Answer
     requires { ⌜ cardNumber (now card) ≡ 0 ⌝ }
 {
     let b = extent_of(q);
+    let primary = shape_of(v, p);
+    let reference = shape_of(v, q);
     let at = put_opening(out, p.slot, q.slot, bottom(v) + 3400);
     let at = put_pale(out, at, card, v, b, a.first);
-    let at = put_two(out, at, v, p, q);
+    let at = put_two(out, at, primary, reference);
     let at = put_marks(out, at, v, p, b);
-    let at = put_labels(out, at, v, p, q);
+    let at = put_labels(out, at, primary, reference);
     let at = put_answer(out, at, v, p.slot, q.slot, a);
     put_foot(out, at)
 }
