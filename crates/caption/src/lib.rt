@@ -69,7 +69,7 @@ fn put_around(out: &mut [u8], at: usize, y: u16, primary: u16, reference: u16, a
     )
 }
 
-// A cell of the matrix with its value in the middle. Its ground is white, of the colours of the two parcels, or what they make together.
+// A cell of the matrix with its value in the middle, on a ground that is white, has the colour of one parcel, or what both make together.
 fn put_value(out: &mut [u8], from: usize, x: u16, y: u16, value: u8) -> usize {
     let at = put_form(
         out,

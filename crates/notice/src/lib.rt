@@ -19,7 +19,7 @@ fn put_two(out: &mut [u8], from: usize, first: &[u8], second: &[u8]) -> usize {
 
 const NO_ROW: usize = 18;
 
-// Where the two rows of a number stand in the table of `put_help`.
+// Where the two rows of a number begin in the table of `put_help`, which has them by rising numbers.
 fn row_of(number: u16) -> usize {
     match number {
         2 => 0,
@@ -35,7 +35,7 @@ fn row_of(number: u16) -> usize {
     }
 }
 
-// What a number says of a card, and what helps: two rows of the table.
+// What a number says of a card, and what helps: two rows for each.
 fn put_help(out: &mut [u8], at: usize, number: u16) -> usize {
     let row = row_of(number);
     if NO_ROW <= row {

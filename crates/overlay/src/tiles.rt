@@ -123,7 +123,29 @@ pub fn put_tints(out: &mut [u8], from: usize, v: View, b: Extent, set: u16) -> u
     put_text(out, at, b"</g>\n")
 }
 
-// The name of the box itself, in its upper left corner; beside its upper right corner where the box is small.
+// The names stand where the map has no parcel: along the frame.
+pub fn put_names(out: &mut [u8], from: usize, v: View, b: Extent) -> usize {
+    let x = middle(x_of(v, b.west), x_of(v, b.east));
+    let y = middle(y_of(v, b.north), y_of(v, b.south)) + 100;
+    let low = reach(160, bottom(v));
+    let at = put_form(
+        out,
+        from,
+        b"<g fill='#0b3d91' font-size='300' font-weight='bold' text-anchor='middle' stroke='#ffffff' stroke-width='60' paint-order='stroke'>\n\
+        <text x='520' y='510' >NW</text>\n\
+        <text x='9080' y='510' >NE</text>\n\
+        <text x='520' y='@' >SW</text>\n\
+        <text x='9080' y='@' >SE</text>\n\
+        <text x='@' y='510' >N</text>\n\
+        <text x='520' y='@' >W</text>\n\
+        <text x='9080' y='@' >E</text>\n\
+        <text x='@' y='@' >S</text>\n",
+        &[low, low, x, y, y, x, low],
+    );
+    put_box_name(out, at, v, b)
+}
+
+// The name of the box itself, in its upper left corner, or beside its upper right corner where the box is small; with it the names end.
 fn put_box_name(out: &mut [u8], at: usize, v: View, b: Extent) -> usize {
     if is_small(tile_frame(v, b, 4)) {
         return put_name_beside(out, at, x_of(v, b.east), y_of(v, b.north));
@@ -131,7 +153,7 @@ fn put_box_name(out: &mut [u8], at: usize, v: View, b: Extent) -> usize {
     put_form(
         out,
         at,
-        b"<text x='@' y='@' text-anchor='start'>B</text>\n",
+        b"<text x='@' y='@' text-anchor='start'>B</text>\n</g>\n",
         &[x_of(v, b.west) + 120, y_of(v, b.north) + 330],
     )
 }
@@ -143,43 +165,12 @@ fn put_name_beside(out: &mut [u8], at: usize, x: u16, y: u16) -> usize
         out,
         at,
         b"<path d='M@ @l190-120' stroke='#0b3d91' stroke-width='25'/>\n\
-        <text x='@' y='@' text-anchor='start'>B</text>\n",
+        <text x='@' y='@' text-anchor='start'>B</text>\n\
+        </g>\n",
         &[x, y, x + 210, reach(90, y)],
     )
 }
 
 fn is_small(f: Frame) -> bool {
     f.width < 900 || f.height < 900
-}
-
-fn put_sides(out: &mut [u8], at: usize, v: View, b: Extent) -> usize {
-    let x = middle(x_of(v, b.west), x_of(v, b.east));
-    let y = middle(y_of(v, b.north), y_of(v, b.south)) + 100;
-    put_form(
-        out,
-        at,
-        b"<text x='@' y='510' >N</text>\n\
-        <text x='520' y='@' >W</text>\n\
-        <text x='9080' y='@' >E</text>\n\
-        <text x='@' y='@' >S</text>\n",
-        &[x, y, y, x, reach(160, bottom(v))],
-    )
-}
-
-// The names stand where the map has no parcel: along the frame.
-pub fn put_names(out: &mut [u8], from: usize, v: View, b: Extent) -> usize {
-    let y = reach(160, bottom(v));
-    let at = put_form(
-        out,
-        from,
-        b"<g fill='#0b3d91' font-size='300' font-weight='bold' text-anchor='middle' stroke='#ffffff' stroke-width='60' paint-order='stroke'>\n\
-        <text x='520' y='510' >NW</text>\n\
-        <text x='9080' y='510' >NE</text>\n\
-        <text x='520' y='@' >SW</text>\n\
-        <text x='9080' y='@' >SE</text>\n",
-        &[y, y],
-    );
-    let at = put_sides(out, at, v, b);
-    let at = put_box_name(out, at, v, b);
-    put_text(out, at, b"</g>\n")
 }
