@@ -7,15 +7,6 @@ use svg::form::put_form;
 use words::put_natural;
 use words::put_text;
 
-pub fn put_edge(out: &mut [u8], at: usize, v: View) -> usize {
-    put_form(
-        out,
-        at,
-        b"<rect x='200' y='200' width='9200' height='@' fill='none' stroke='#555555' stroke-width='15'/>\n",
-        &[v.height],
-    )
-}
-
 // 1, 2, 5, 10, 20, 50 .. up to a million.
 fn round_length(k: usize) -> u64
     ensures { λ r. ⌜ r ≤ 1000000 ⌝ }
@@ -61,21 +52,7 @@ fn longer(best: u64, length: u64, v: View) -> u64 {
     length
 }
 
-// The bar, with its length beside it.
-pub fn put_bar(out: &mut [u8], from: usize, v: View) -> usize {
-    let length = bar_length(v);
-    let y = bottom(v) + 380;
-    let width = tenths(length, v.span);
-    let at = put_form(
-        out,
-        from,
-        b"<path d='M200 @l@ 0' stroke='#1b1b1b' stroke-width='60'/>\n<text x='@' y='@' >",
-        &[y, width, 200 + width + 150, y + 90],
-    );
-    let at = put_natural(out, at, length);
-    put_unit(out, at, length)
-}
-
+// How the text of the bar's length ends.
 fn put_unit(out: &mut [u8], at: usize, length: u64) -> usize {
     if length == 1 {
         return put_text(out, at, b" unit</text>\n");
@@ -83,8 +60,20 @@ fn put_unit(out: &mut [u8], at: usize, length: u64) -> usize {
     put_text(out, at, b" units</text>\n")
 }
 
-pub fn put_north(out: &mut [u8], at: usize, v: View) -> usize {
+pub fn put_furniture(out: &mut [u8], from: usize, v: View) -> usize {
     let y = bottom(v);
+    let length = bar_length(v);
+    let width = tenths(length, v.span);
+    let at = put_form(
+        out,
+        from,
+        b"<rect x='200' y='200' width='9200' height='@' fill='none' stroke='#555555' stroke-width='15'/>\n\
+        <path d='M200 @l@ 0' stroke='#1b1b1b' stroke-width='60'/>\n\
+        <text x='@' y='@' >",
+        &[v.height, y + 380, width, width + 350, y + 470],
+    );
+    let at = put_natural(out, at, length);
+    let at = put_unit(out, at, length);
     put_form(
         out,
         at,

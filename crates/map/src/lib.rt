@@ -3,9 +3,7 @@ ghost use mathlib.Core.Path.{_≡_};
 ghost use Rattle.card.specs.CardNumber.{cardNumber};
 use field::field_at;
 use field::fields_on;
-use furniture::put_bar;
-use furniture::put_edge;
-use furniture::put_north;
+use furniture::put_furniture;
 use label::put_label;
 use plot::put_parcels;
 use scale::shape::shape_of;
@@ -72,13 +70,6 @@ pub fn put_named(out: &mut [u8], from: usize, card: &[u8], v: View) -> usize
     );
     let at = put_labels(out, at, card, v);
     put_text(out, at, b"</g>\n")
-}
-
-// Frame, bar and arrow.
-pub fn put_furniture(out: &mut [u8], from: usize, v: View) -> usize {
-    let at = put_edge(out, from, v);
-    let at = put_bar(out, at, v);
-    put_north(out, at, v)
 }
 
 // The whole picture of a card without a pair.
