@@ -50,7 +50,8 @@ use Rattle.card.proofs.Numbers.{not-good-means}
 use Rattle.io.specs.Digits.{glyph, digits}
 use Rattle.names.specs.Names.{nameOf, namesOf, B, O}
 use Rattle.names.specs.Numbers.{space, decimal}
-use Rattle.lines.specs.Listing.{lineFeed, parcelsWord, refusedWord, lastWords, pairLine, lineOf, listing}
+use Rattle.line.specs.Line.{lineFeed, lastWords, pairLine}
+use Rattle.lines.specs.Listing.{parcelsWord, refusedWord, lineOf, listing}
 use Rattle.names.specs.Fields.{Starts, between, setBits, StandsIn}
 use Rattle.names.proofs.NameWords.{set-bits-mean, set-bits-rise, names-are, names-start, some-bit}
 use Rattle.names.proofs.NameFields.{tile-named, direction-named}

@@ -2,28 +2,19 @@
 -- line for every two of its parcels, each as the one that is looked at in turn and with it every other as the one from which: slots, tiles,
 -- directions, pieces, and ` differ` where the two engines do not agree on the pair. A line feed ends each line. Letters are the numbers of their
 -- ASCII codes.
---   lineFeed                  this byte;  parcelsWord, refusedWord  the two words with a space behind them
---   lastWords n t             the pieces n, the word of a pair that differs, where t says so, and the end of the line
---   pairLine p q a d          the line for the parcels of slots p and q, whose pair answer is a and whose drawn matrix is d
---   lineOf card j k           that of parcels j and k of the card, counted from 0; of a parcel with itself there is none
+--   parcelsWord, refusedWord  the two words with a space behind them
+--   lineOf card j k           the line of parcels j and k of the card, counted from 0; of a parcel with itself there is none
 --   listing card              the whole text
-use mathlib.Core.Bool.{Bool}
 use mathlib.Core.List.{List, [], _∷_, _++_}
 use Prim.Native.Nat.{ℕ}
 use lib.Dec.{eqb}
 use Rattle.plane.specs.Choice.{pick}
-use Rattle.pair.specs.declared.Answer.{Answer}
-use Rattle.drawn.specs.declared.DrawnMatrix.{DrawnMatrix}
 use Rattle.endian.specs.Bytes.{joined}
 use Rattle.card.specs.Reading.{parcelCount, slotAt}
 use Rattle.card.specs.CardNumber.{cardNumber}
 use Rattle.carried.specs.Pairs.{pairIn, drawnIn}
-use Rattle.names.specs.Names.{namesOf, B, O}
 use Rattle.names.specs.Numbers.{space, decimal}
-use Rattle.lines.specs.Differ.{differ, differWord}
-
-abbrev pub lineFeed : ℕ
-lineFeed = 10
+use Rattle.line.specs.Line.{lineFeed, pairLine}
 
 -- "parcels " and "refused "
 abbrev pub parcelsWord : List ℕ
@@ -31,13 +22,6 @@ parcelsWord = 112 ∷ 97 ∷ 114 ∷ 99 ∷ 101 ∷ 108 ∷ 115 ∷ space ∷ []
 
 abbrev pub refusedWord : List ℕ
 refusedWord = 114 ∷ 101 ∷ 102 ∷ 117 ∷ 115 ∷ 101 ∷ 100 ∷ space ∷ []
-
-abbrev pub lastWords : ℕ → Bool → List ℕ
-lastWords n t = decimal n ++ (pick t differWord [] ++ (lineFeed ∷ []))
-
-unfoldable pub pairLine : (p q : ℕ) → Answer → DrawnMatrix → List ℕ
-pairLine p q a d =
-    decimal p ++ (space ∷ (decimal q ++ (space ∷ (namesOf B (a .first) ++ (space ∷ (namesOf O (a .directions) ++ (space ∷ lastWords (a .«first_pieces») (differ a d))))))))
 
 unfoldable pub lineOf : List ℕ → (j k : ℕ) → List ℕ
 lineOf card j k = pick (eqb j k) [] (pairLine (slotAt card j) (slotAt card k) (pairIn card j k) (drawnIn card j k))

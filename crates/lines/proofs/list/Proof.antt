@@ -8,7 +8,8 @@ use Rattle.endian.specs.Bytes.{joined}
 use Rattle.card.specs.Reading.{parcelCount}
 use Rattle.card.specs.CardNumber.{cardNumber}
 use Rattle.names.specs.Numbers.{decimal}
-use Rattle.lines.specs.Listing.{lineFeed, parcelsWord, refusedWord, listing}
+use Rattle.line.specs.Line.{lineFeed}
+use Rattle.lines.specs.Listing.{parcelsWord, refusedWord, listing}
 use Rattle.names.specs.Steps.{Put}
 use Rattle.lines.specs.Steps.{rowOf}
 use Rattle.names.proofs.Putting.{put-as, put-then, put-whole, room-first, room-next}

@@ -4,7 +4,8 @@ use native.Mathlib.Omega.{arith}
 use lib.ListN.{length}
 use Rattle.card.proofs.Good.{good-means, good-right}
 use Rattle.card.proofs.Bounds.{entry-there}
-use Rattle.lines.specs.Listing.{pairLine, lineOf}
+use Rattle.line.specs.Line.{pairLine}
+use Rattle.lines.specs.Listing.{lineOf}
 use Rattle.names.proofs.Putting.{put-none, put-as}
 use Rattle.lines.proofs.PairLines.{line-none, line-some}
 use Rattle.lines.proofs.lines.put_pair.Statement.{statement}

@@ -1,9 +1,9 @@
 use mathlib.Core.Path.{_∙_}
 use borrow.Author.Tests.{eq-eqb, ne-eqb}
-use Rattle.lines.specs.Differ.{differ}
+use Rattle.line.specs.Differ.{differ}
 use borrow.Author.Needs.{needs}
-use Rattle.lines.proofs.lines.differ.Statement.{statement}
-use Rattle.lines.proofs.lines.differ.Tie as tie
+use Rattle.line.proofs.differ.Statement.{statement}
+use Rattle.line.proofs.differ.Tie as tie
 
 returns : tie.Need-returns
 unfolding differ

@@ -6,10 +6,10 @@ use native.Mathlib.Omega.{arith}
 use lib.ListN.{length}
 use Rattle.names.specs.Numbers.{space, decimal}
 use Rattle.names.proofs.Putting.{put-as, put-then, room-first, room-next}
-use Rattle.lines.specs.Listing.{lineFeed, lastWords}
+use Rattle.line.specs.Line.{lineFeed, lastWords}
 use borrow.Author.Needs.{needs}
-use Rattle.lines.proofs.lines.put_last.Statement.{statement}
-use Rattle.lines.proofs.lines.put_last.Tie as tie
+use Rattle.line.proofs.put_last.Statement.{statement}
+use Rattle.line.proofs.put_last.Tie as tie
 
 -- "differ" and the line feed
 abbrev word : List ℕ

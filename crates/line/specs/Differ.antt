@@ -1,5 +1,5 @@
 -- SCOPE 10.4: the list asks both engines, and says ` differ` of a pair for which they do not give the same rows, columns and cells.
---   differ a d       the matrix of the pair answer a and the drawn one d are not the same. Its meaning: proofs/Differ, `differ-means`
+--   differ a d       the matrix of the pair answer a and the drawn one d are not the same. Its meaning: proofs/Differing, `differ-means`
 --   differWord       the word, with the space before it
 use mathlib.Core.Bool.{Bool, not, _||_}
 use mathlib.Core.List.{List, [], _∷_}

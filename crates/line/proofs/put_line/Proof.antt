@@ -6,11 +6,11 @@ use native.Mathlib.Omega.{arith}
 use lib.ListN.{length}
 use Rattle.names.specs.Names.{namesOf, B, O}
 use Rattle.names.specs.Numbers.{space, decimal}
-use Rattle.lines.specs.Listing.{lastWords}
+use Rattle.line.specs.Line.{lastWords}
 use Rattle.names.proofs.Putting.{put-as, put-then, room-first, room-next}
-use Rattle.lines.proofs.PairLines.{behind1, behind2, behind3, behind4, line-is}
-use Rattle.lines.proofs.lines.put_line.Statement.{statement}
-use Rattle.lines.proofs.lines.put_line.Tie as tie
+use Rattle.line.proofs.Line.{behind1, behind2, behind3, behind4, line-is}
+use Rattle.line.proofs.put_line.Statement.{statement}
+use Rattle.line.proofs.put_line.Tie as tie
 
 -- there is room for the five words, and behind each for the rest
 room0 : (c : tie.Start)

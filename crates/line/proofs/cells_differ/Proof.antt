@@ -10,8 +10,8 @@ use lib.ListN.{getD}
 use Rattle.plane.specs.Folds.{anyTo}
 use Rattle.plane.proofs.Folds.{none-yet, none-more, found}
 use borrow.Author.Needs.{needs}
-use Rattle.lines.proofs.lines.cells_differ.Statement.{statement}
-use Rattle.lines.proofs.lines.cells_differ.Tie as tie
+use Rattle.line.proofs.cells_differ.Statement.{statement}
+use Rattle.line.proofs.cells_differ.Tie as tie
 
 abbrev other : (cells drawn : List ℕ) → ℕ → Bool
 other cells drawn k = not (eqb (getD cells k 0) (getD drawn k 0))
