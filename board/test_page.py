@@ -240,7 +240,8 @@ def keys(page):
 
 
 def fingers(page):
-    """On a phone: two fingers zoom, one drags a corner, nothing is wider than the screen."""
+    """On a phone: two fingers zoom, one drags a corner, nothing is wider than the screen, and what is said of a refused ring can be read."""
+    page.browser.value(IS_CLEAR + "; 0")
     page.holds("document.scrollingElement.scrollWidth", PHONE[0])
     page.outline(1)
     before = page.browser.value("view.scale")
@@ -267,6 +268,17 @@ def fingers(page):
     page.settled()
     page.press("#close-ring")
     page.holds("JSON.stringify(board.parcels[0]?.rings)", "[[[0,0],[0,10],[10,10],[10,0]]]")
+    for number in range(8, 13):
+        page.outline(number)
+        page.holds("[...document.querySelectorAll('.why')].length > 0 && [...document.querySelectorAll('.why')].every(isClear)")
+
+
+# Whether words on the map lie within it, and neither the zoom buttons nor the status line over them.
+IS_CLEAR = """isClear = words => {
+  const [inner, map] = [words, svg].map(node => node.getBoundingClientRect());
+  const apart = id => (r => r.left >= inner.right || r.right <= inner.left || r.top >= inner.bottom || r.bottom <= inner.top)(byId(id).getBoundingClientRect());
+  return inner.left >= map.left && inner.right <= map.right && inner.top >= map.top && inner.bottom <= map.bottom && apart("zoom") && apart("status");
+}"""
 
 
 def errors(page, server):
