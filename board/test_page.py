@@ -89,7 +89,7 @@ def drawn(page):
     page.says("back", "and back: 1 lies in N:NE:B:E of 0")
     page.holds("[...document.querySelectorAll('#matrix tr')].map(row => row.textContent).join(' ')", "022 132 110")
     page.holds("[...document.querySelectorAll('#compass .is')].map(place => place.textContent).join(':')", "W:O:SW:S")
-    page.says("facts", "DirectionsW:O:SW:SPieces8 and 8Aroundno")
+    page.says("facts", "Directions of 0 from 1:W:O:SW:SPieces of 0:8Pieces of 1:80 is around 1:no")
     page.says("line", "0 1 W:B:SW:S W:O:SW:S 8\n1 0 N:NE:B:E N:NE:O:E 8")
     page.holds("[...document.querySelectorAll('.tile-name.has')].map(name => name.dataset.tile).join(':')", "W:B:SW:S")
     page.holds("document.querySelectorAll('.tile').length", 4)
@@ -104,7 +104,7 @@ def dragged(page):
     """A corner on an edge is refused with 6, beside its ring; undo takes it back. An edge gives a corner; a parcel moves as a whole."""
     page.outline(1)
     page.drag((0, 0), (10, 5))
-    page.holds("document.querySelector('.refusal b').textContent", "Parcel 0: number 6")
+    page.holds("document.querySelector('.refusal b').textContent", "Parcel 0 is refused: number 6")
     page.holds("document.querySelector('.why').textContent.startsWith('6: a ring crosses or touches')")
     page.holds("document.querySelectorAll('.ring.refused').length", 1)
     page.says("line", "no line")
@@ -131,10 +131,10 @@ def outlines(page):
     for number, relation in enumerate(relations, 1):
         page.outline(number)
         page.says("relation", relation)
-    page.holds("document.querySelector('#facts').textContent.endsWith('Aroundyes')")
+    page.holds("document.querySelector('#facts').textContent.endsWith('0 is around 1:yes')")
     for number, refusal in zip(range(8, 13), (6, 6, 7, 2, 4)):
         page.outline(number)
-        page.holds("document.querySelector('.refusal b').textContent", f"Parcel 0: number {refusal}")
+        page.holds("document.querySelector('.refusal b').textContent", f"Parcel 0 is refused: number {refusal}")
     page.outline(10)
     page.press(".refusal button")
     page.says("relation", "B")
@@ -162,13 +162,16 @@ def lesson(page):
     page.outline(5)
     page.press("#lesson-start")
     page.says("edge-name", "Edge 1 of 3: from (0, 0) to (0, 10)")
-    shown = []
+    shown, sentences = [], []
     while not page.browser.value("byId('lesson-next').disabled"):
         shown.append(page.browser.value("[...document.querySelectorAll('#tiles-passed span')].map(s => s.textContent + (s.className === 'now' ? '*' : '')).join(' ')"))
-        page.holds("document.querySelectorAll('.tile-step').length + document.querySelectorAll('.step-edge').length", 2)
+        page.holds("['tile-step', 'step-edge', 'step-piece'].map(name => document.querySelectorAll('.' + name).length).join()", "1,1,1")
+        sentences.append(page.browser.value("byId('rule').textContent"))
         page.press("#lesson-next")
         page.settled()
-    assert shown == ["SW* W", "SW W*", "W* S", "W S*", "S* SW", "S SW*"], shown
+    assert shown == ["SW* ?", "SW W*", "W* ?", "W S*", "S* ?", "S SW*"], shown
+    assert sentences[1] == "Past a line it goes on into W: piece 2 of 2.", sentences
+    assert sentences[3] == "Through the box's corner, where it meets two lines in one point and is cut once, it goes on into S: piece 2 of 2.", sentences
     page.says("rule", "Every tile that an edge has is one of the relation.")
     page.press("#lesson-end")
     page.outline(2)
@@ -186,6 +189,21 @@ def lesson(page):
     page.says("rule", "No edge lies in B, but a ring covers the box and goes round its middle: so B counts too.")
     page.press("#lesson-end")
     page.settled()
+
+
+def hidden(page):
+    """Answers are kept back for a class to find, and come again; a refusal is said all the same."""
+    page.outline(1)
+    page.press("#hide")
+    page.says("relation", "?")
+    page.holds("['back', 'line', 'list'].map(id => byId(id).textContent).join()", ",?,?")
+    page.holds("byId('figures').hidden && document.querySelectorAll('.tile, .tile-name.has').length === 0 && document.querySelectorAll('.tile-name').length === 9")
+    page.outline(8)
+    page.holds("document.querySelector('.refusal b').textContent", "Parcel 0 is refused: number 6")
+    page.outline(1)
+    page.press("#hide")
+    page.says("relation", "W:B:SW:S")
+    page.says("line", "0 1 W:B:SW:S W:O:SW:S 8\n1 0 N:NE:B:E N:NE:O:E 8")
 
 
 def cards(page, downloads):
@@ -257,7 +275,7 @@ def fingers(page):
     for part in range(1, 6):
         page.browser.touch("touchMove", tuple(a + (b - a) * part / 5 for a, b in zip(start, end)))
     page.browser.touch("touchEnd")
-    page.holds("document.querySelector('.refusal b')?.textContent", "Parcel 0: number 6")
+    page.holds("document.querySelector('.refusal b')?.textContent", "Parcel 0 is refused: number 6")
     page.press("#new")
     page.settled()
     page.press("#draw-parcel")
@@ -329,7 +347,7 @@ def main(words):
         page = Page(browser)
         with tempfile.TemporaryDirectory() as downloads:
             browser.open(address, *WIDE, False, downloads)
-            tests = [drawn, dragged, outlines, several, lesson, keys]
+            tests = [drawn, dragged, outlines, several, lesson, hidden, keys]
             for test in tests:
                 test(page)
             cards(page, downloads)

@@ -54,6 +54,9 @@ extern "C" {
  * host's memcpy and memset take comes on top.
  * Library: no function of the C library is used but memcpy and memset, to which the compiler of the archive turns the copying and
  * clearing of arrays. A host without a C library has to have these two, as C compilers ask of every such environment.
+ * Interrupts: the code keeps to the x86-64 System V calling convention, and with it uses the 128 bytes below the stack pointer (the "red
+ * zone"; counted in DIRECTION_STACK) and the SSE registers. Signal handlers of Linux spare both. Code that interrupts a call on the same
+ * stack, as in a kernel, must spare both too, or the answer may be wrong.
  * Time: bounded. The call has no loop without a fixed bound: at most 32 parcels of at most 64 vertices are looked at. No card that was
  * tried took more than DIRECTION_INSTRUCTIONS instructions; that is a trial and no bound.
  */
@@ -87,7 +90,12 @@ uint32_t direction_report(const uint8_t *card, size_t card_length, uint8_t *repo
  * it was taken out, and no refusal to come gets it. */
 
 /* The report: 19 numbers of two bytes, the lower byte first. Place of each, counted in numbers from 0. "First" is the parcel of the
- * lower slot. */
+ * lower slot.
+ * Tiles: a parcel lies in a tile where some of it lies inside; what only touches the tile's rim from outside does not count.
+ * Matrix: the lines of both boxes cut the frame round both into at most three rows and columns, fewer where two lines fall together; a gap
+ * between the boxes is a row or a column of its own. A cell holds a parcel that has it in its box and lies in its tile of the other's box.
+ * Directions: which way it is from some cell of the second to some cell of the first. They tell more than the tiles: a parcel with the
+ * tiles N and B may have the directions NW, N, NE, W and O. Those of the second from the first are the opposite ones: bit k for bit 8 - k. */
 #define DIRECTION_FIRST_TO_SECOND 3 /* places 0, 1 and 2 are 0. Tiles of the second's box in which the first lies: a set, see below */
 #define DIRECTION_SECOND_TO_FIRST 4 /* tiles of the first's box in which the second lies */
 #define DIRECTION_ROWS 5            /* rows of the interaction matrix, 1 to 3, from the north */
@@ -127,6 +135,9 @@ static inline unsigned direction_word(const uint8_t *report, unsigned place)
  *   then             for each parcel, for each ring: how many vertices the parcel has up to the end of that ring
  *   then             for each parcel, for each vertex: x and y, signed, four bytes each. x grows east, y north.
  *   The length is exactly 12 + 4 P + 2 R + 8 V. Rings are clockwise, the last vertex joins the first and is not repeated.
+ *   Coordinates are whole numbers of any unit, the same one for both parcels.
+ *   A parcel is all that its rings enclose together; they may touch and overlap. A ring is never a hole: a hole turned clockwise would be
+ *   filled. A field with a hole is drawn as rings that lie round the hole.
  *
  * Where the numbers above come from, of the archive as rt makes it. Stack: 3,704 bytes, added up from its code (tools/host-stack): it has no
  * recursion and no frame of variable size, so its deepest chain of calls tells what any card can take. Seen in runs (tools/host-cost.c):
@@ -134,8 +145,8 @@ static inline unsigned direction_word(const uint8_t *report, unsigned place)
  * with the memcpy and memset of the C library that rt's programs run with; another card may take more, up to the first number. Code and
  * constants: 24,470 bytes (readelf). The gate (.ci/run) takes all three again and holds them to the sizes above.
  *
- * Instructions: 5,698,034 on a card of 32 parcels, each a spiral that stands on its corner, the last one turned round: all are checked, and
- * then the card is refused with 7. 652,028 on a card of two such spirals, which is answered. Counted by valgrind's callgrind
+ * Instructions: some 5,698,000 on a card of 32 parcels, each a spiral that stands on its corner, the last one turned round: all are checked, and
+ * then the card is refused with 7. Some 652,000 on a card of two such spirals, which is answered. Counted by valgrind's callgrind
  * (tools/host-instructions), memcpy and memset of glibc 2.36 included, over 2,298 cards: the 2,000 of `independent cards 2000 1`, the
  * examples, and those that tools/host-slow.c makes to be slow. What costs most is rule 6 on edges that lie near each other, so these have
  * parcels of 64 vertices whose edges nearly all do: spirals and zigzags at many angles, and small shapes beside one far vertex; in two of

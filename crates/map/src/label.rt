@@ -1,4 +1,5 @@
-// Where the label of a parcel stands: in the middle of the widest stretch of its first ring along one of three level lines.
+// Where the label of a parcel stands: in the middle of the widest stretch of its first ring along one of three level lines, or above a ring
+// that it would hide.
 use region::MOST_VERTICES;
 use scale::shape::Shape;
 use scale::shape::Stroke;
@@ -129,6 +130,22 @@ fn better(a: Stretch, b: Stretch) -> Stretch {
     if a.width + 400 < b.width { b } else { a }
 }
 
+// Above the ring where it is smaller than its number.
+fn clear_of(l: Stretch, h: LowHigh, slot: u16) -> Stretch {
+    let digits_wide: u16 = if slot < 10 { 150 } else { 300 };
+    if h.high < h.low {
+        return l;
+    }
+    if digits_wide <= l.width || 400 <= h.high - h.low {
+        return l;
+    }
+    Stretch {
+        x: l.x,
+        y: if 120 < h.low { h.low - 120 } else { l.y },
+        width: l.width,
+    }
+}
+
 fn label_of(s: Shape) -> Stretch {
     let ends = s.ends;
     let n = end_before(ends, 1);
@@ -137,7 +154,7 @@ fn label_of(s: Shape) -> Stretch {
     let middle = widest(s, n, between(h.low, h.high, 1, 2));
     let upper = widest(s, n, between(h.low, h.high, 1, 3));
     let lower = widest(s, n, between(h.low, h.high, 2, 3));
-    better(better(middle, upper), lower)
+    clear_of(better(better(middle, upper), lower), h, s.slot)
 }
 
 // The slot in the middle of the place that its label has.

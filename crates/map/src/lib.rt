@@ -89,7 +89,7 @@ pub fn put_map(out: &mut [u8], card: &[u8]) -> usize
         at,
         card,
         v,
-        b"<g stroke-linejoin='round' stroke='#3a3a3a' stroke-width='20'>\n",
+        b"<g stroke-linejoin='round' stroke='#3a3a3a' stroke-width='20' fill-opacity='0.8'>\n",
     );
     let at = put_furniture(out, at, v);
     let at = put_named(out, at, card, v);
