@@ -1,4 +1,6 @@
 // What a request comes to, and how answers are written and sent.
+#![tactic(auto)]
+
 pub mod fronts;
 
 use libc::STDOUT_FILENO;
@@ -14,7 +16,7 @@ const NO_BYTES: u8 = 45;
 
 // What a request comes to: an answer that is written up to this place, without its line feed; a number, two numbers or `ok` that is still
 // to be written; or the line is none of the forms.
-#[derive(Drop)]
+#[derive(Clone, Copy)]
 pub enum Reply {
     Upto(usize),
     Number(u16),

@@ -1,4 +1,6 @@
 // The word "around" of a pair answer.
+#![tactic(auto)]
+
 ghost use Rattle.std.specs.Prelude.{◌≡◌};
 ghost use Rattle.around.specs.Around.{around_of};
 

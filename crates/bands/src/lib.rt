@@ -1,6 +1,8 @@
 // The edges of a ring by bands. In each axis the ring's box is cut into 32 bands of equal width; for each band a word tells which
 // edges have an end in it or before it, and another which have one in it or past it. Two edges that overlap find each other in the
 // words of their own bands. A word may name an edge too many, which costs time; it never leaves one out.
+#![tactic(auto)]
+
 ghost use Rattle.std.specs.Prelude.{◌≡◌, ℕ, ◌+◌, ◌-◌, ◌≤◌, ◌<◌, length, get_or};
 ghost use Rattle.plane.specs.Points.{vertex};
 ghost use Rattle.ring.specs.Stretch.{Readable, Stretch};

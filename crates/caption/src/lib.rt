@@ -1,4 +1,6 @@
 // What is said below the map: tiles and directions in words as the list has them, pieces, the matrix, and "around" where it is.
+#![tactic(auto)]
+
 use around::around;
 use names::put_set;
 use pair::Answer;

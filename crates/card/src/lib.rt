@@ -1,4 +1,6 @@
 // The entries of a card, by its layout, and the rules that its header and its entries keep.
+#![tactic(auto)]
+
 ghost use Rattle.std.specs.Prelude.{◌≡◌, false, ◌+◌, ◌*◌, ◌≤◌, length};
 ghost use Rattle.card.specs.Layout.{parcels_at};
 ghost use Rattle.card.specs.Reading.{parcel_count, slot_at, count_at, first_ring};

@@ -1,4 +1,6 @@
 // The pair answer and the drawn matrix of two parcels that a good card carries.
+#![tactic(auto)]
+
 ghost use Rattle.std.specs.Prelude.{◌≡◌, ◌<◌};
 ghost use Rattle.card.specs.Reading.{parcel_count};
 ghost use Rattle.card.specs.CardNumber.{card_number};
@@ -11,7 +13,7 @@ use pair::{Answer, pair_of};
 use region::MOST_RINGS;
 
 // How many ring ends and coordinates of a parcel were read.
-#[derive(Drop)]
+#[derive(Clone, Copy)]
 struct Sizes {
     rings: usize,
     numbers: usize,

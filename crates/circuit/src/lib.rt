@@ -1,5 +1,7 @@
 // One ring, a stretch of a list of coordinates: its vertices and edges, its box, and whether it encloses a box's centre. Rules 5 to 7 are
 // asked in `simple`, its tiles and pieces in `seen`.
+#![tactic(auto)]
+
 ghost use Rattle.std.specs.Prelude.{◌≡◌, true, ◌+◌, ◌≤◌, ◌<◌, min, max};
 ghost use Rattle.plane.specs.Place.{place_of, in_range};
 ghost use Rattle.plane.specs.Points.{vertex};

@@ -4,6 +4,8 @@
 // A difference in rows is a number from 0 to 4: two up, one up, none, one down, two down. A difference in columns is one too: two west, one
 // west, none, one east, two east. The cells of a region are a set of squares on squared paper with five squares a row, of which the matrix
 // takes three, so that what is moved by a difference never runs from one row into another.
+#![tactic(auto)]
+
 ghost use Rattle.std.specs.Prelude.{◌≡◌, ◌+◌, ◌*◌, ◌^◌, ◌≤◌, ◌<◌};
 ghost use Rattle.plane.specs.TileSet.{set_of, one_if};
 ghost use Rattle.compass.specs.Directions.{side_of, directions_of};

@@ -1,4 +1,6 @@
 // The parcels of a card: ring ends and coordinates of each, read out of the bytes, and the number that refuses a card by itself.
+#![tactic(auto)]
+
 ghost use Rattle.std.specs.Prelude.{◌≡◌, false, ◌++◌, ◌*◌, ◌≤◌, ◌<◌, length, drop};
 ghost use Rattle.region.specs.Region.{most_rings, most_vertices, last_end};
 ghost use Rattle.card.specs.Layout.{rings_at, vertices_at};

@@ -1,5 +1,7 @@
 // The desk: every call of the library at a keyboard. Requests come in on standard input, one a line, and each has one line of answer on
 // standard output. Lines of nothing but spaces and lines that begin with `#`, remarks, have none. There is one sheet, empty at the start.
+#![tactic(auto)]
+
 use answers::{Reply, fronts};
 use input::{Place, names};
 use kept::{COORDINATES_KEPT, RECORDS_KEPT, RELATIONS_KEPT};

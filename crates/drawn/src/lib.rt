@@ -1,5 +1,7 @@
 // The matrix straight from the edges, as it is drawn: lay the lines of both boxes over the plane, cut each edge by them, and mark the cells that it
 // goes through; at the end the centre clause. Plain on purpose: no tile and no relation is asked for.
+#![tactic(auto)]
+
 ghost use Rattle.std.specs.Prelude.{◌≡◌, ◌*◌, ◌/◌, ◌%◌, ◌<◌, ◌≤◌, eqb};
 ghost use Rattle.std.specs.Int.Bits.{bit_or};
 ghost use Rattle.plane.specs.Placed.{BoxInPlaces, EdgeInPlaces};
@@ -28,7 +30,7 @@ use relation::region_box;
 use seen::covers_box;
 
 // Either the refusal (number, region, ring, and every other field 0), or number, region and ring 0 and the matrix with its size, its cells by row.
-#[derive(Drop)]
+#[derive(Clone, Copy)]
 pub struct DrawnMatrix {
     pub number: u16,
     pub region: u16,
@@ -39,7 +41,7 @@ pub struct DrawnMatrix {
 }
 
 // What one region marks: the cells by row, as a set of nine, that its edges mark, and whether the centre clause marks the other's box.
-#[derive(Drop)]
+#[derive(Clone, Copy)]
 struct Marked {
     cells: u16,
     centre: bool,

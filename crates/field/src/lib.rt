@@ -1,4 +1,6 @@
 // One parcel of a good card as a picture needs it: its slot, its ring ends and its coordinates.
+#![tactic(auto)]
+
 ghost use Rattle.std.specs.Prelude.{◌≡◌, ◌≤◌, ◌<◌};
 ghost use Rattle.card.specs.Reading.{parcel_count, entry_of};
 ghost use Rattle.card.specs.CardNumber.{card_number};
@@ -9,7 +11,7 @@ use contents::{MOST_NUMBERS, read_ends, read_numbers};
 use region::MOST_RINGS;
 
 // What stands behind the last ring end and behind the last coordinate is 0.
-#[derive(Drop)]
+#[derive(Clone, Copy)]
 pub struct Field {
     pub slot: u16,
     pub rings: usize,

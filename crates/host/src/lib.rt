@@ -1,4 +1,6 @@
 // The one call for the C host: a card of two parcels in, a report out.
+#![tactic(auto)]
+
 ghost use Rattle.std.specs.Prelude.{◌≡◌};
 ghost use Rattle.report.specs.Report.{host_number, host_report};
 

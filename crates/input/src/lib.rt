@@ -1,4 +1,6 @@
 // The input, in chunks, and the lines in it; the words that requests begin with, and the outlines and cards in a line.
+#![tactic(auto)]
+
 pub mod cards;
 pub mod names;
 pub mod outlines;
@@ -9,7 +11,7 @@ use words::LINE_FEED;
 
 // Where the reading stands: the bytes of the chunk from `from` to `to` are still to be taken; `held` bytes of the line have been; answers
 // are written up to `at`; whether the line is whole, and whether the input is over.
-#[derive(Drop)]
+#[derive(Clone, Copy)]
 pub struct Place {
     pub from: usize,
     pub to: usize,

@@ -2,7 +2,7 @@
 use words::{Integer, Natural};
 
 // How many ring ends and coordinates were read, and the place after them.
-#[derive(Drop)]
+#[derive(Clone, Copy)]
 pub enum Outline {
     Is {
         rings: usize,
@@ -13,7 +13,7 @@ pub enum Outline {
 }
 
 // How many numbers were read, and the place after them.
-#[derive(Drop)]
+#[derive(Clone, Copy)]
 pub enum Numbers {
     Are { count: usize, next: usize },
     Not,

@@ -1,4 +1,6 @@
 // The sheet that the desk keeps. The calls on it are lent as much of each of its lists as `lent` says, which the request lend changes.
+#![tactic(auto)]
+
 use answers::{Reply, fronts};
 use input::names;
 use layout::lists::{COORDINATES, RECORDS, RELATIONS};

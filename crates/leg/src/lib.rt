@@ -1,4 +1,6 @@
 // One leg seen from one box, asked with eight numbers of any size: its tiles in order of travel.
+#![tactic(auto)]
+
 ghost use Rattle.std.specs.Prelude.{◌≡◌, false, length};
 ghost use Rattle.plane.specs.Choice.{pick};
 ghost use Rattle.plane.specs.Placed.{BoxInPlaces, EdgeInPlaces};

@@ -1,4 +1,6 @@
 // The line of one pair in a list: two slots, tiles, directions, pieces; and whether the pair's two matrices differ.
+#![tactic(auto)]
+
 ghost use Rattle.std.specs.Prelude.{◌≡◌, not, ◌+◌, ◌≤◌, eqb, length, get_or};
 ghost use Rattle.plane.specs.Folds.{any_to};
 ghost use Rattle.names.specs.Steps.{Put};

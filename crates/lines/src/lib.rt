@@ -1,4 +1,6 @@
 // The list of a card: what a card is refused with, or the count of its parcels and a line for each ordered pair of different ones.
+#![tactic(auto)]
+
 ghost use Rattle.std.specs.Prelude.{◌≡◌, ◌++◌, length, drop};
 ghost use Rattle.lines.specs.Listing.{listing};
 

@@ -1,4 +1,6 @@
 // The listing program: a card on standard input, its list on standard output; with the argument --version, its version.
+#![tactic(auto)]
+
 mod version;
 
 use intake::read_card;

@@ -1,4 +1,6 @@
 // The requests on the numbers in the sheet's lists, whatever they stand for: poke, sheet.
+#![tactic(auto)]
+
 use answers::Reply;
 use words::{COLON, Integer, Natural, SPACE};
 

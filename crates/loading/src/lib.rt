@@ -1,4 +1,6 @@
 // A card into a sheet.
+#![tactic(auto)]
+
 ghost use Rattle.std.specs.Prelude.{◌≡◌, false, ◌<◌};
 ghost use Rattle.layout.specs.Sheet.{sheet_of, wrong_lists};
 ghost use Rattle.region.specs.Region.{outline};

@@ -5,7 +5,7 @@ use scale::shape::{Shape, Stroke, at, between, end_before, stroke_at};
 use svg::form::put_form;
 
 // A stretch of a level line: its middle and how wide it is.
-#[derive(Drop)]
+#[derive(Clone, Copy)]
 struct Stretch {
     x: u16,
     y: u16,
@@ -13,7 +13,7 @@ struct Stretch {
 }
 
 // Between what heights a ring lies.
-#[derive(Drop)]
+#[derive(Clone, Copy)]
 struct LowHigh {
     low: u16,
     high: u16,

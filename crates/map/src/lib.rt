@@ -1,4 +1,6 @@
 // The map of a good card's parcels.
+#![tactic(auto)]
+
 ghost use Rattle.std.specs.Prelude.{◌≡◌};
 ghost use Rattle.card.specs.CardNumber.{card_number};
 

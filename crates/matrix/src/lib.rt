@@ -1,4 +1,6 @@
 // Two boxes and the two relations between their regions: the grid of both boxes' lines, the objects interaction matrix.
+#![tactic(auto)]
+
 ghost use Rattle.std.specs.Prelude.{◌≡◌, ◌+◌, ◌*◌, ◌≤◌, ◌<◌};
 ghost use Rattle.plane.specs.Lists.{tab};
 ghost use Rattle.plane.specs.TileSet.{one_if};
@@ -22,14 +24,14 @@ pub const BOTH: u8 = 3;
 pub const CELLS: usize = 9;
 
 // The distinct lines of one axis in rising order; the places past the count are 0.
-#[derive(Drop)]
+#[derive(Clone, Copy)]
 pub struct Rising {
     pub count: usize,
     pub at: [u64; 4],
 }
 
 // The grid of two boxes: the matrix's size, the lines from the south and the lines from the west.
-#[derive(Drop)]
+#[derive(Clone, Copy)]
 pub struct GridLines {
     pub rows: u16,
     pub columns: u16,

@@ -1,5 +1,7 @@
 // Tiles, directions and numbers as the words of a list, written into a buffer at a place. Who calls has room for the word; the place behind it
 // is answered.
+#![tactic(auto)]
+
 mod names;
 mod texts;
 

@@ -1,5 +1,7 @@
 // A picture that says why there is no map: the number that refuses a card, what it means and what helps (docs/NUMBERS.md); or what is wrong
 // with the slots that were asked for.
+#![tactic(auto)]
+
 use svg::form::{put_form, row_in};
 use svg::{put_foot, put_head};
 use words::put_text;

@@ -12,7 +12,7 @@ const RIGHT: u16 = 9400;
 const TOP: u16 = 200;
 
 // A rectangle by its upper left corner and its size.
-#[derive(Drop)]
+#[derive(Clone, Copy)]
 struct Frame {
     x: u16,
     y: u16,

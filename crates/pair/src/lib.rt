@@ -1,4 +1,6 @@
 // Two regions: the pair answer.
+#![tactic(auto)]
+
 ghost use Rattle.std.specs.Prelude.{◌≡◌};
 ghost use Rattle.region.specs.Region.{region_of};
 ghost use Rattle.region.specs.Rules.{Keeps};
@@ -15,7 +17,7 @@ use seen::Seen;
 // Either the refusal (number, region, ring, and every other field 0), or number, region and ring 0 and the answers: the relation of the
 // first region to the second and of the second to the first, the matrix with its size, the directions of the first from the second, and
 // the pieces of each.
-#[derive(Drop)]
+#[derive(Clone, Copy)]
 pub struct Answer {
     pub number: u16,
     pub region: u16,

@@ -1,4 +1,6 @@
 // The requests on cards and the sheet: load, write.
+#![tactic(auto)]
+
 use answers::{BEFORE, Reply, fronts};
 use input::cards;
 use words::{Bytes, Natural};

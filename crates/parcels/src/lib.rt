@@ -1,4 +1,6 @@
 // The requests on the parcels of the sheet and on a relation: put, remove, clear, cell, cells, row, tiles.
+#![tactic(auto)]
+
 use answers::{BEFORE_NUMBER, Reply, fronts};
 use calls::Reading;
 use input::outlines;

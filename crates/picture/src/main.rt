@@ -1,5 +1,7 @@
 // The picture program: a card on standard input, an SVG picture on standard output. Without an argument it is the map of the card's parcels;
 // with two slots, the parcel in the first seen from the parcel in the second.
+#![tactic(auto)]
+
 mod draw;
 
 use answers::fronts::bytes;

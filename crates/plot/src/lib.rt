@@ -1,4 +1,6 @@
 // The parcels of a map, each a path of all its rings.
+#![tactic(auto)]
+
 ghost use Rattle.std.specs.Prelude.{◌≡◌, [], ◌∷◌, ◌++◌, ◌-◌, ◌%◌};
 ghost use Rattle.card.specs.Reading.{parcel_count};
 ghost use Rattle.card.specs.CardNumber.{card_number};

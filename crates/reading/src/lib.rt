@@ -1,4 +1,6 @@
 // The readings of a sheet, which change nothing of it: a cell, a row, a list of pairs (`several`), and how many tiles a relation has.
+#![tactic(auto)]
+
 ghost use Rattle.std.specs.Prelude.{◌≡◌, ◌+◌, ◌*◌};
 ghost use Rattle.calls.specs.Readings.{read_number, read_value, reading_of, reading_number, reading_value, row_of, row_start, tile_count};
 

@@ -1,5 +1,7 @@
 // The requests on two outlines, on an edge, on a matrix and on a card, which are answered with numbers of a report and need no sheet: pair,
 // drawn, edge, directions, host.
+#![tactic(auto)]
+
 mod edges;
 mod matrices;
 mod pairs;

@@ -9,7 +9,7 @@ use field::Field;
 use plane::lesser;
 use region::{MOST_RINGS, MOST_VERTICES};
 
-#[derive(Drop)]
+#[derive(Clone, Copy)]
 pub struct Shape {
     pub slot: u16,
     pub rings: usize,
@@ -66,7 +66,7 @@ pub fn end_before(ends: [u16; MOST_RINGS], r: usize) -> usize
 }
 
 // An edge in the picture, from a to b; y grows downwards.
-#[derive(Drop)]
+#[derive(Clone, Copy)]
 pub struct Stroke {
     pub ax: u16,
     pub ay: u16,

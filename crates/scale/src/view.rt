@@ -19,7 +19,7 @@ const LEAST_HEIGHT: u16 = 3000;
 const MARGIN: u16 = 200;
 
 // The places between which the parcels lie.
-#[derive(Drop)]
+#[derive(Clone, Copy)]
 pub struct Extent {
     pub west: u64,
     pub south: u64,
@@ -29,7 +29,7 @@ pub struct Extent {
 
 // Where the north-western corner of the parcels lies on the map and in the picture, how many tenths a span of map units has, and the height
 // of the frame.
-#[derive(Drop)]
+#[derive(Clone, Copy)]
 pub struct View {
     pub west: u64,
     pub north: u64,

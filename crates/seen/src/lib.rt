@@ -1,4 +1,6 @@
 // What one ring shows a box: its tiles by all three clauses, and its pieces.
+#![tactic(auto)]
+
 ghost use Rattle.std.specs.Prelude.{◌≡◌, true, ◌+◌, ◌≤◌, ◌<◌, min, length};
 ghost use Rattle.plane.specs.Placed.{BoxInPlaces, Upright};
 ghost use Rattle.edge.specs.Drawn.{drawn};
@@ -15,7 +17,7 @@ use edge::{Walk, walk_edge};
 use plane::Box;
 
 // What a ring or a region shows a box: the set of the tiles that it has, and into how many pieces the box's lines cut its edges.
-#[derive(Drop)]
+#[derive(Clone, Copy)]
 pub struct Seen {
     pub set: u16,
     pub pieces: u16,

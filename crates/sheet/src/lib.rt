@@ -1,5 +1,7 @@
 // The calls that change a sheet, which has slots for parcels and keeps every relation. A call answers 0, or the number that refuses it; a
 // refusal leaves the three lists as they were found.
+#![tactic(auto)]
+
 ghost use Rattle.std.specs.Prelude.{◌≡◌};
 ghost use Rattle.region.specs.Region.{region_of};
 ghost use Rattle.layout.specs.Sheet.{sheet_of};

@@ -1,4 +1,6 @@
 // The picture of two parcels of a good card: the one in the first slot, the primary, seen from the one in the second, the reference.
+#![tactic(auto)]
+
 ghost use Rattle.std.specs.Prelude.{◌≡◌, ◌<◌};
 ghost use Rattle.card.specs.Reading.{parcel_count};
 ghost use Rattle.card.specs.CardNumber.{card_number};

@@ -1,6 +1,8 @@
 // One ring against rules 5, 6 and 7: one pass over its edges for repeated vertices, folds and the turning sense, and a search for
 // edges that meet. Few pairs of edges come near each other, so the search is for those few: in a small ring by the edges' ranges
 // laid out once, in a larger one by bands. Only they are asked, with products, whether they share a point.
+#![tactic(auto)]
+
 ghost use Rattle.std.specs.Prelude.{◌≡◌, ◌+◌, ◌≤◌, ◌<◌, min, max, length};
 ghost use Rattle.plane.specs.Placed.{EdgeInPlaces};
 ghost use Rattle.meet.specs.MeetTest.{shares};
@@ -22,7 +24,7 @@ use plane::{Edge, place_at};
 const SMALL: usize = 16;
 
 // Which of the rules 5, 6 and 7 the ring breaks.
-#[derive(Drop)]
+#[derive(Clone, Copy)]
 pub struct Faults {
     pub repeated: bool,
     pub tangled: bool,
@@ -30,7 +32,7 @@ pub struct Faults {
 }
 
 // What one pass over the edges tells: rules 5 and 7, and the folds of rule 6.
-#[derive(Drop)]
+#[derive(Clone, Copy)]
 struct Scan {
     repeated: bool,
     folded: bool,

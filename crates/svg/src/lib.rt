@@ -1,5 +1,7 @@
 // An SVG picture, written into a buffer at a place. Each function answers the place behind what it wrote, and asks nothing of its caller: a
 // text that has no room in the buffer is not written. Lengths are tenths of a pixel.
+#![tactic(auto)]
+
 ghost use Rattle.std.specs.Prelude.{[], ◌∷◌};
 ghost use Rattle.names.specs.Numbers.{decimal};
 ghost use Rattle.svg.specs.Ink.{Inked};

@@ -1,5 +1,7 @@
 // What the classes of an edge's ends tell of it, in numbers. A match of constants becomes constant data: no call builds the table, and
 // nobody lends it. What an entry means, and that it is right, is shown in `classes`.
+#![tactic(auto)]
+
 ghost use Rattle.std.specs.Prelude.{◌≡◌, get_or};
 ghost use Rattle.told.specs.Entries.{two_entries, entry_at};
 

@@ -1,5 +1,7 @@
 // The library's work under names that C can call, for measurement alone (bench/): no part of what a host is given.
 // The relations ask of their caller what the library's own callers are proved to keep; the others take any input.
+#![tactic(auto)]
+
 ghost use Rattle.std.specs.Prelude.{◌≡◌};
 ghost use Rattle.plane.specs.Placed.{BoxInPlaces, Upright};
 ghost use Rattle.region.specs.Region.{region_of};

@@ -1,4 +1,6 @@
 // A sheet into a card.
+#![tactic(auto)]
+
 ghost use Rattle.std.specs.Prelude.{◌≡◌};
 ghost use Rattle.layout.specs.Sheet.{sheet_of};
 ghost use Rattle.writing.specs.Write.{written, write};
@@ -11,14 +13,14 @@ use storage::refused::whole_number;
 mod steps;
 
 // What writing a card answers: 0 and the card's length, or the number of the refusal and 0.
-#[derive(Drop)]
+#[derive(Clone, Copy)]
 pub struct Written {
     pub number: u16,
     pub length: usize,
 }
 
 // How many parcels, rings and vertices stand.
-#[derive(Drop)]
+#[derive(Clone, Copy)]
 pub struct Totals {
     pub parcels: usize,
     pub rings: usize,
