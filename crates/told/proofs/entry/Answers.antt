@@ -2,7 +2,6 @@ use mathlib.Core.Path.{sym, ap}
 use Prim.Native.Nat.{ℕ, ◌*◌, ◌/◌, ◌%◌, ◌^◌}
 use Rattle.told.specs.Entries.{entry_at}
 use Rattle.told.proofs.Past.{entry_past}
-use borrow.Author.Rules.{rules}
 use Rattle.told.proofs.entry.Goals as goal
 
 pub returns-then-i-gt624 : goal.returns-then-i-gt624

@@ -21,4 +21,4 @@ past zero k h = omega arith
 past (suc n) k h = omega (arith, past n k h.0, h.1)
 
 pub returns-in_default : goal.returns-in_default
-returns-in_default c = let h = c.in_default in ?
+returns-in_default c = sym (past_end two_entries c.args.k (past 313 c.args.k c.in_default.in_default-own.rest))
