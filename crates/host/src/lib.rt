@@ -1,4 +1,4 @@
-// The one call for the C host: a card of two parcels in, a report out.
+// The one call for the C host: a card of two parcels in, a report out. `host_c` hands it to C under the same name.
 #![tactic(auto)]
 
 ghost use Rattle.std.specs.Prelude.{◌≡◌};
@@ -14,8 +14,7 @@ use region::refusals::{BUFFER_SHORT, NOT_TWO_PARCELS};
 const REPORT_LENGTH: usize = 38;
 
 // Nothing is written before the answer is there.
-#[unsafe(no_mangle)]
-pub extern "C" fn direction_report(card: &[u8], report: &mut [u8]) -> u32
+pub fn direction_report(card: &[u8], report: &mut [u8]) -> u32
     ensures value { result ≡ host_number card.now report.old }
     ensures report_after { report.new ≡ host_report card.now report.old }
 {

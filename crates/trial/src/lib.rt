@@ -1,4 +1,5 @@
-// The library's work under names that C can call, for measurement alone (bench/): no part of what a host is given.
+// The library's work in calls of numbers and lists, for measurement alone (bench/): no part of what a host is given. `trial_c` hands them to
+// C under the same names.
 // The relations ask of their caller what the library's own callers are proved to keep; the others take any input.
 #![tactic(auto)]
 
@@ -19,8 +20,7 @@ use region::Checked;
 use relation::{region_box, region_seen};
 
 // The number and 65,536 times the ring of a refusal, 0 where the region is accepted.
-#[unsafe(no_mangle)]
-pub extern "C" fn trial_check(outline: &[i32], ends: &[u16]) -> u32 {
+pub fn trial_check(outline: &[i32], ends: &[u16]) -> u32 {
     let checked = check_region(outline, ends);
     match checked {
         Checked::Accepted => 0,
@@ -29,13 +29,7 @@ pub extern "C" fn trial_check(outline: &[i32], ends: &[u16]) -> u32 {
 }
 
 // The relation of the first region to the second, and 65,536 times the pieces of the first. Both boxes are found here.
-#[unsafe(no_mangle)]
-pub extern "C" fn trial_relation(
-    first: &[i32],
-    first_ends: &[u16],
-    second: &[i32],
-    second_ends: &[u16],
-) -> u32
+pub fn trial_relation(first: &[i32], first_ends: &[u16], second: &[i32], second_ends: &[u16]) -> u32
     requires { Keeps 4 (region_of first.now first_ends.now) × Keeps 4 (region_of second.now second_ends.now) }
 {
     let own = region_box(first, first_ends);
@@ -45,8 +39,7 @@ pub extern "C" fn trial_relation(
 }
 
 // The same where both boxes are at hand: the relation of a region to the box with the first four lines; the next four are its own box's.
-#[unsafe(no_mangle)]
-pub extern "C" fn trial_seen(
+pub fn trial_seen(
     west: u64,
     south: u64,
     east: u64,
@@ -78,25 +71,13 @@ pub extern "C" fn trial_seen(
 }
 
 // The relation of the first region to the second and 65,536 times that of the second to the first; 0 beside a refusal.
-#[unsafe(no_mangle)]
-pub extern "C" fn trial_pair(
-    first: &[i32],
-    first_ends: &[u16],
-    second: &[i32],
-    second_ends: &[u16],
-) -> u32 {
+pub fn trial_pair(first: &[i32], first_ends: &[u16], second: &[i32], second_ends: &[u16]) -> u32 {
     let a = pair_of(first, first_ends, second, second_ends);
     a.first as u32 + 65536 * a.second as u32
 }
 
 // What is written of a reading of one cell, and the number of a list of pairs.
-#[unsafe(no_mangle)]
-pub extern "C" fn trial_cell(
-    records: &[u16],
-    relations: &[u16],
-    primary: u32,
-    reference: u32,
-) -> u32 {
+pub fn trial_cell(records: &[u16], relations: &[u16], primary: u32, reference: u32) -> u32 {
     let p = (primary % 65536) as u16;
     let q = (reference % 65536) as u16;
     let reading = read_cell(records, relations, p, q);
@@ -106,19 +87,12 @@ pub extern "C" fn trial_cell(
     }
 }
 
-#[unsafe(no_mangle)]
-pub extern "C" fn trial_cells(
-    records: &[u16],
-    relations: &[u16],
-    pairs: &[u16],
-    results: &mut [u16],
-) -> u32 {
+pub fn trial_cells(records: &[u16], relations: &[u16], pairs: &[u16], results: &mut [u16]) -> u32 {
     read_cells(records, relations, pairs, results) as u32
 }
 
 // A put, and a load of a card.
-#[unsafe(no_mangle)]
-pub extern "C" fn trial_put(
+pub fn trial_put(
     xs: &mut [i32],
     records: &mut [u16],
     relations: &mut [u16],
@@ -130,12 +104,6 @@ pub extern "C" fn trial_put(
     sheet::put(xs, records, relations, s, outline, ends) as u32
 }
 
-#[unsafe(no_mangle)]
-pub extern "C" fn trial_load(
-    xs: &mut [i32],
-    records: &mut [u16],
-    relations: &mut [u16],
-    bytes: &[u8],
-) -> u32 {
+pub fn trial_load(xs: &mut [i32], records: &mut [u16], relations: &mut [u16], bytes: &[u8]) -> u32 {
     loading::load(xs, records, relations, bytes) as u32
 }
