@@ -1,0 +1,23 @@
+use mathlib.Core.Path.{◌≡◌}
+use mathlib.Core.Bool.{Bool}
+use Prim.Native.Nat.{ℕ, ◌+◌, ◌-◌, ◌/◌, ◌^◌, ◌≤◌}
+use lib.Dec.{leb, eqb}
+use Rattle.plane.specs.Folds.{sum_to}
+use Rattle.plane.specs.TileSet.{one_if}
+use Rattle.plane.proofs.TileSet.{any_set}
+use Rattle.edge.specs.TileList.{digit_in}
+use Rattle.edge.proofs.draw.Given as goal
+
+-- The loop's invariant: of the first j digits, the tiles for which they stand and how many there are; and the digits that are left.
+
+abbrev standsAt : ℕ → ℕ → ℕ → Bool
+standsAt v j t = eqb (digit_in v j) (t + 1)
+
+abbrev there : ℕ → ℕ → ℕ
+there v j = one_if (leb (16 ^ j) v)
+
+abbrev pub invariant-loop-j : goal.invariant-loop-j
+invariant-loop-j l = (l.j ≤ 5) × (l.rest ≡ l.list / 16 ^ l.j) × (l.set ≡ any_set (standsAt l.list) l.j 9) × (l.count ≡ sum_to (there l.list) l.j) × (l.count ≤ l.j)
+
+abbrev pub decreases-loop-j : goal.decreases-loop-j
+decreases-loop-j l = 5 - l.j
