@@ -2,16 +2,10 @@ use lib.ListN.{get_or}
 use Prim.Native.Nat.{◌<◌, ◌≤◌}
 use Rattle.words.specs.Lines.{hex_value}
 use native.Mathlib.Omega.{arith}
-use mathlib.Core.Path.{◌≡◌, sym, ◌∙◌, refl}
-use Prim.Native.Nat.{◌+◌, ◌-◌}
-use lib.ListN.{length, drop}
+use mathlib.Core.Path.{sym, ◌∙◌, refl}
 use borrow.Author.Tests.{lt-ltb, le-ltb}
-use Rattle.words.specs.Lines.{is_hex, run}
+use Rattle.words.specs.Lines.{is_hex}
 use Rattle.words.proofs.Lines.{run_more, run_stop, run_over}
-use borrow.Author.Rules.{rules}
-use Rattle.words.proofs.read.after_hex.Reads as reads
-use Rattle.words.proofs.read.after_hex.Lts as lts
-use Rattle.words.proofs.read.hex_value.Reads as hex-value-reads
 use Rattle.words.proofs.read.after_hex.Goals as goal
 
 pub loop-i-init : goal.loop-i-init

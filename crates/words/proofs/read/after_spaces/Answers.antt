@@ -1,13 +1,8 @@
 use native.Mathlib.Omega.{arith}
-use mathlib.Core.Path.{◌≡◌, sym, ◌∙◌, refl}
-use Prim.Native.Nat.{◌+◌, ◌-◌}
-use lib.ListN.{length, drop}
+use mathlib.Core.Path.{sym, ◌∙◌, refl}
 use borrow.Author.Tests.{eq-eqb, ne_eqb}
-use Rattle.words.specs.Lines.{is_space, run}
+use Rattle.words.specs.Lines.{is_space}
 use Rattle.words.proofs.Lines.{run_more, run_stop, run_over}
-use borrow.Author.Rules.{rules}
-use Rattle.words.proofs.read.after_spaces.Reads as reads
-use Rattle.words.proofs.read.after_spaces.Lts as lts
 use Rattle.words.proofs.read.after_spaces.Goals as goal
 
 pub loop-i-init : goal.loop-i-init

@@ -1,9 +1,6 @@
 use Rattle.words.proofs.Lines.{get_d_any}
 use mathlib.Core.Path.{sym}
 use lib.ListN.{get_or-eq_default}
-use borrow.Author.Rules.{rules}
-use Rattle.words.proofs.read.byte_at.Reads as reads
-use Rattle.words.proofs.read.byte_at.Lts as lts
 use Rattle.words.proofs.read.byte_at.Goals as goal
 
 pub returns-then-at-line : goal.returns-then-at-line

@@ -7,14 +7,8 @@ use Rattle.words.proofs.Numbers.{filled_none, filled_more}
 use Rattle.words.specs.Lines.{hex_value}
 use native.Mathlib.Omega.{arith}
 use mathlib.Core.Path.{◌≡◌, ◌∙◌, refl}
-use Prim.Native.Nat.{◌+◌, ◌-◌, ◌≤◌}
-use lib.ListN.{length}
+use Prim.Native.Nat.{◌+◌}
 use Rattle.words.specs.Numbers.{filled, byte_of}
-use borrow.Author.Rules.{rules}
-use Rattle.words.proofs.read.decode.Reads as reads
-use Rattle.words.proofs.read.decode.Lts as lts
-use Rattle.words.proofs.read.byte_at.Reads as byte-at-reads
-use Rattle.words.proofs.read.hex_value.Reads as hex-value-reads
 use Rattle.words.proofs.read.decode.Goals as goal
 
 pub loop-k-init : goal.loop-k-init

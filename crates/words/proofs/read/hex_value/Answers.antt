@@ -2,11 +2,6 @@ use native.Mathlib.Omega.{arith}
 use mathlib.Core.Path.{sym, ◌∙◌}
 use Rattle.words.proofs.Lines.{between_means}
 use Rattle.words.specs.Lines.{hex_value}
-use borrow.Author.Rules.{rules}
-use Rattle.words.proofs.read.hex_value.Reads as reads
-use Rattle.words.proofs.read.hex_value.Lts as lts
-use Rattle.words.proofs.read.is_between.Reads as is-between-reads
-use Rattle.words.proofs.read.is_digit.Reads as is-digit-reads
 use Rattle.words.proofs.read.hex_value.Goals as goal
 
 pub overflow_sub-result : goal.overflow_sub-result

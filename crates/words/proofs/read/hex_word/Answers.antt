@@ -4,11 +4,6 @@ use borrow.Author.Tests.{eqb-false, eq-eqb, ne_eqb}
 use Rattle.words.specs.Numbers.{hex_at}
 use Rattle.words.proofs.Lines.{within}
 use Rattle.words.proofs.Numbers.{hex_upto, hex_of_lem}
-use borrow.Author.Rules.{rules}
-use Rattle.words.proofs.read.hex_word.Reads as reads
-use Rattle.words.proofs.read.hex_word.Lts as lts
-use Rattle.words.proofs.read.after_hex.Reads as after-hex-reads
-use Rattle.words.proofs.read.byte_at.Reads as byte-at-reads
 use Rattle.words.proofs.read.hex_word.Goals as goal
 use Rattle.words.proofs.read.hex_word.Goals.{After-after_hex-next}
 

@@ -1,6 +1,4 @@
 use borrow.Author.Tests.{lt-ltb, le-ltb}
-use Rattle.words.proofs.read.is_between.Reads as reads
-use Rattle.words.proofs.read.is_between.Lts as lts
 use Rattle.words.proofs.read.is_between.Goals as goal
 
 pub returns-then-b-least : goal.returns-then-b-least

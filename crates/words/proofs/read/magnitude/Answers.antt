@@ -1,10 +1,6 @@
 use mathlib.Core.Path.{sym, ◌∙◌}
 use Rattle.words.proofs.Numbers.{magnitude_none, magnitude_longer, magnitude_above, magnitude_is}
 use borrow.Author.Rules.{rules}
-use Rattle.words.proofs.read.magnitude.Reads as reads
-use Rattle.words.proofs.read.magnitude.Lts as lts
-use Rattle.words.proofs.read.byte_at.Reads as byte-at-reads
-use Rattle.words.proofs.read.read_digits.Reads as read-digits-reads
 use Rattle.words.proofs.read.magnitude.Goals as goal
 
 pub returns-then-next-at : goal.returns-then-next-at

@@ -6,9 +6,6 @@ use mir.Syntax.{w32}
 use mir.Val.{SFits}
 use mir.Facts.{to_z_pos, to_z-of_z}
 use Rattle.plane.proofs.Signs.{minus_pos}
-use borrow.Author.Rules.{rules}
-use Rattle.words.proofs.read.negated.Reads as reads
-use Rattle.words.proofs.read.negated.Lts as lts
 use Rattle.words.proofs.read.negated.Goals as goal
 
 pub returns-then-value-eq0 : goal.returns-then-value-eq0

@@ -4,12 +4,6 @@ use borrow.Author.Tests.{le-leb, lt-leb}
 use Rattle.words.specs.Lines.{word_at}
 use Rattle.words.specs.Numbers.{hex_at, bytes_of, bytes_in}
 use Rattle.words.proofs.Numbers.{hex_within}
-use borrow.Author.Rules.{rules}
-use Rattle.words.proofs.read.read_bytes.Reads as reads
-use Rattle.words.proofs.read.read_bytes.Lts as lts
-use Rattle.words.proofs.read.after_spaces.Reads as after-spaces-reads
-use Rattle.words.proofs.read.decode.Reads as decode-reads
-use Rattle.words.proofs.read.hex_word.Reads as hex-word-reads
 use Rattle.words.proofs.read.read_bytes.Goals as goal
 use Rattle.words.proofs.read.read_bytes.Goals.{After-hex_word-w}
 
@@ -20,26 +14,33 @@ word c = c.hex_word-w.ensures ∙ ap (hex_at c.args.line.now) c.after_spaces-sta
 pub returns-in_default : goal.returns-in_default
 returns-in_default c =
     let a = c.args in
-    let e = sym (word (goal.at.returns-in_default c).After-hex_word-w) ∙ c.enum_told-1.given.1 in
-    (sym (ap (bytes_of (length a.into.now)) e), sym (ap (bytes_in a.line.now a.into.now) e))
+    let e = sym (word (goal.at.returns-in_default c).After-hex_word-w) ∙ c.in_default.is in
+    record { value = sym (ap (bytes_of (length a.into.now)) e); into_after = sym (ap (bytes_in a.line.now a.into.now) e) }
 
 pub returns-then-into-count : goal.returns-then-into-count
 returns-then-into-count c =
     let a = c.args in
-    let e = sym (word (goal.at.returns-then-into-count c).After-hex_word-w) ∙ c.w-1.given.1 in
+    let e = sym (word (goal.at.returns-then-into-count c).After-hex_word-w) ∙ c.in-Is.is in
     let t = lt-leb _ _ c.if-into-count.true in
-    (sym (ap (bytes_of (length a.into.now)) e ∙ simp t), sym (ap (bytes_in a.line.now a.into.now) e ∙ simp t))
+    record {
+      value = sym (ap (bytes_of (length a.into.now)) e ∙ simp t);
+      into_after = sym (ap (bytes_in a.line.now a.into.now) e ∙ simp t);
+    }
 
 pub decode-requires : goal.decode-requires
 decode-requires c =
     let a = c.args in
-    (c.if-into-count.false, hex_within a.line.now c.after_spaces-start.result (sym c.hex_word-w.ensures ∙ c.w-1.given.1))
+    record {
+      count_in_bounds = c.if-into-count.false;
+      count_in_bounds_2 = hex_within a.line.now c.after_spaces-start.result (sym c.hex_word-w.ensures ∙ c.in-Is.is);
+    }
 
 pub returns : goal.returns
 returns c =
     let a = c.args in
-    let e = sym (word (goal.at.returns c).After-hex_word-w) ∙ c.w-1.given.1 in
-    let t = le-leb _ _ c.if-into-count.false in (
-      sym (ap (bytes_of (length a.into.now)) e ∙ simp t),
-      c.decode.ensures ∙ sym (ap (bytes_in a.line.now a.into.now) e ∙ simp t),
-    )
+    let e = sym (word (goal.at.returns c).After-hex_word-w) ∙ c.in-Is.is in
+    let t = le-leb _ _ c.if-into-count.false in
+    record {
+      value = sym (ap (bytes_of (length a.into.now)) e ∙ simp t);
+      into_after = c.decode.ensures ∙ sym (ap (bytes_in a.line.now a.into.now) e ∙ simp t);
+    }

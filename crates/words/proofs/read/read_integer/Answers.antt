@@ -10,13 +10,6 @@ use Rattle.words.specs.declared.Integer.{Integer}
 use Rattle.words.specs.Numbers.{as_positive, signed_at, integer_at}
 use Rattle.words.proofs.Lines.{within}
 use Rattle.words.proofs.Numbers.{magnitude_most, signed_negative, signed_positive}
-use borrow.Author.Rules.{rules}
-use Rattle.words.proofs.read.read_integer.Reads as reads
-use Rattle.words.proofs.read.read_integer.Lts as lts
-use Rattle.words.proofs.read.after_spaces.Reads as after-spaces-reads
-use Rattle.words.proofs.read.byte_at.Reads as byte-at-reads
-use Rattle.words.proofs.read.magnitude.Reads as magnitude-reads
-use Rattle.words.proofs.read.negative.Reads as negative-reads
 use Rattle.words.proofs.read.read_integer.Goals as goal
 use Rattle.words.proofs.read.read_integer.Goals.{After-magnitude-m, In-Is}
 
@@ -28,9 +21,9 @@ positive c =
     ∙ signed_positive bs c.after_spaces-start.result (λ z. c.if-byte_at-eq-MINUS.false (c.byte_at.ensures ∙ z))
     ∙ ap (signed_at bs) c.after_spaces-start.ensures
 
-small : (c : In-Is) → c.m-1.given.0.0 < 2147483648
+small : (c : In-Is) → c.in-Is.value < 2147483648
 small c =
-    let h = magnitude_most c.args.line.now c.after_spaces-start.result 2147483647 (sym c.magnitude-m.ensures ∙ c.m-1.given.1) in
+    let h = magnitude_most c.args.line.now c.after_spaces-start.result 2147483647 (sym c.magnitude-m.ensures ∙ c.in-Is.is) in
     omega (arith, h)
 
 pub overflow_add-start : goal.overflow_add-start
@@ -45,13 +38,13 @@ returns-then-byte_at-eq-MINUS c =
     ∙ ap (signed_at c.args.line.now) c.after_spaces-start.ensures
 
 pub returns-in_default : goal.returns-in_default
-returns-in_default c = sym (ap as_positive c.enum_told-1.given.1) ∙ positive (goal.at.returns-in_default c).After-magnitude-m
+returns-in_default c = sym (ap as_positive c.in_default.is) ∙ positive (goal.at.returns-in_default c).After-magnitude-m
 
 pub overflow_cast-result : goal.overflow_cast-result
 overflow_cast-result c = record { sfits = small (goal.at.overflow_cast-result c).In-Is }
 
 pub returns : goal.returns
 returns c =
-    ap (λ (z : ℤ). Integer.Is z c.m-1.given.0.1.0) (to_z_pos w32 (small (goal.at.returns c).In-Is))
-    ∙ sym (ap as_positive c.m-1.given.1)
+    ap (λ (z : ℤ). Integer.Is z c.in-Is.next) (to_z_pos w32 (small (goal.at.returns c).In-Is))
+    ∙ sym (ap as_positive c.in-Is.is)
     ∙ positive (goal.at.returns c).After-magnitude-m

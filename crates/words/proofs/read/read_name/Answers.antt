@@ -1,12 +1,6 @@
 use mathlib.Core.Path.{◌≡◌, sym, ap, ◌∙◌}
 use borrow.Author.Tests.{eq-eqb, ne_eqb}
 use Rattle.words.specs.Lines.{word_at, letters_at, name_of}
-use borrow.Author.Rules.{rules}
-use Rattle.words.proofs.read.read_name.Reads as reads
-use Rattle.words.proofs.read.read_name.Lts as lts
-use Rattle.words.proofs.read.after_spaces.Reads as after-spaces-reads
-use Rattle.words.proofs.read.byte_at.Reads as byte-at-reads
-use Rattle.words.proofs.read.spell.Reads as spell-reads
 use Rattle.words.proofs.read.read_name.Goals as goal
 use Rattle.words.proofs.read.read_name.Goals.{After-spell-name}
 

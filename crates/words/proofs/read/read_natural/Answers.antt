@@ -4,11 +4,6 @@ use Rattle.words.specs.Lines.{word_at}
 use Rattle.words.specs.Numbers.{magnitude_at, as_natural}
 use Rattle.words.proofs.Numbers.{magnitude_most}
 use Prim.Native.Nat.{ℕ}
-use borrow.Author.Rules.{rules}
-use Rattle.words.proofs.read.read_natural.Reads as reads
-use Rattle.words.proofs.read.read_natural.Lts as lts
-use Rattle.words.proofs.read.after_spaces.Reads as after-spaces-reads
-use Rattle.words.proofs.read.magnitude.Reads as magnitude-reads
 use Rattle.words.proofs.read.read_natural.Goals as goal
 use Rattle.words.proofs.read.read_natural.Goals.{After-magnitude-m}
 
@@ -18,14 +13,14 @@ read : (c : After-magnitude-m)
 read c = c.magnitude-m.ensures ∙ ap (λ (n : ℕ). magnitude_at c.args.line.now n 65535) c.after_spaces-start.ensures
 
 pub returns-in_default : goal.returns-in_default
-returns-in_default c = sym (ap as_natural (sym (read (goal.at.returns-in_default c).After-magnitude-m) ∙ c.enum_told-1.given.1))
+returns-in_default c = sym (ap as_natural (sym (read (goal.at.returns-in_default c).After-magnitude-m) ∙ c.in_default.is))
 
 pub overflow_cast-result : goal.overflow_cast-result
 overflow_cast-result c =
     let a = c.args in
     let x = c.after_spaces-start.result in
-    let h = magnitude_most a.line.now x 65535 (sym c.magnitude-m.ensures ∙ c.m-1.given.1) in
+    let h = magnitude_most a.line.now x 65535 (sym c.magnitude-m.ensures ∙ c.in-Is.is) in
     omega (arith, h)
 
 pub returns : goal.returns
-returns c = sym (ap as_natural (sym (read (goal.at.returns c).After-magnitude-m) ∙ c.m-1.given.1))
+returns c = sym (ap as_natural (sym (read (goal.at.returns c).After-magnitude-m) ∙ c.in-Is.is))

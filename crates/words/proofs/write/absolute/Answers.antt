@@ -7,9 +7,6 @@ use mir.Syntax.{w32}
 use mir.Val.{SFits, to_z, of_z}
 use mir.Facts.{to_z-of_z}
 use Rattle.plane.proofs.Signs.{minus_neg, negative, positive}
-use borrow.Author.Rules.{rules}
-use Rattle.words.proofs.write.absolute.Reads as reads
-use Rattle.words.proofs.write.absolute.Lts as lts
 use Rattle.words.proofs.write.absolute.Goals as goal
 use Rattle.words.proofs.write.absolute.Goals.{Then-value-lt0}
 

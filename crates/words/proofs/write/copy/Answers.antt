@@ -5,12 +5,9 @@ use Prim.Native.Nat.{ℕ}
 use mathlib.Core.List.{List}
 use native.Mathlib.Omega.{arith}
 use mathlib.Core.Path.{◌≡◌, sym, ◌∙◌, refl}
-use Prim.Native.Nat.{◌+◌, ◌-◌, ◌≤◌}
+use Prim.Native.Nat.{◌+◌}
 use lib.ListN.{length}
 use lib.Seq.{paste, paste-zero, paste-suc}
-use borrow.Author.Rules.{rules}
-use Rattle.words.proofs.write.copy.Reads as reads
-use Rattle.words.proofs.write.copy.Lts as lts
 use Rattle.words.proofs.write.copy.Goals as goal
 
 pub loop-i-init : goal.loop-i-init

@@ -1,16 +1,7 @@
-use mathlib.Core.Path.{ap}
-use lib.ListN.{get_or, set, length-set}
-use native.Mathlib.Numerals.{add-one}
-use Prim.Native.Nat.{ℕ}
-use mathlib.Core.List.{List}
-use native.Mathlib.Omega.{arith}
-use mathlib.Core.Path.{◌≡◌, sym, ◌∙◌, refl}
-use Prim.Native.Nat.{◌+◌, ◌-◌, ◌≤◌}
+use mathlib.Core.Path.{◌≡◌}
+use Prim.Native.Nat.{◌-◌, ◌≤◌}
 use lib.ListN.{length}
-use lib.Seq.{paste, paste-zero, paste-suc}
-use borrow.Author.Rules.{rules}
-use Rattle.words.proofs.write.copy.Reads as reads
-use Rattle.words.proofs.write.copy.Lts as lts
+use lib.Seq.{paste}
 use Rattle.words.proofs.write.copy.Given as goal
 
 abbrev pub invariant-loop-i : goal.invariant-loop-i

@@ -1,7 +1,4 @@
 use borrow.Author.Tests.{lt-ltb, le-ltb}
-use borrow.Author.Rules.{rules}
-use Rattle.words.proofs.write.glyph.Reads as reads
-use Rattle.words.proofs.write.glyph.Lts as lts
 use Rattle.words.proofs.write.glyph.Goals as goal
 
 pub returns-then-digit-lt10 : goal.returns-then-digit-lt10

@@ -1,8 +1,3 @@
-use borrow.Author.Rules.{rules}
-use Rattle.words.proofs.write.put_hex.Reads as reads
-use Rattle.words.proofs.write.put_hex.Lts as lts
-use Rattle.words.proofs.write.glyph.Reads as glyph-reads
-use Rattle.words.proofs.write.put_text.Reads as put-text-reads
 use Rattle.words.proofs.write.put_hex.Goals as goal
 
 pub returns : goal.returns

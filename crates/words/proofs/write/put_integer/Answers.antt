@@ -3,12 +3,6 @@ use lib.IntN.{ℤ, nat_abs}
 use Rattle.plane.proofs.Signs.{negative, positive}
 use Rattle.words.specs.Texts.{WroteInteger}
 use mir.Facts.{to_z-of_z}
-use borrow.Author.Rules.{rules}
-use Rattle.words.proofs.write.put_integer.Reads as reads
-use Rattle.words.proofs.write.put_integer.Lts as lts
-use Rattle.words.proofs.write.absolute.Reads as absolute-reads
-use Rattle.words.proofs.write.put_byte.Reads as put-byte-reads
-use Rattle.words.proofs.write.put_natural.Reads as put-natural-reads
 use Rattle.words.proofs.write.put_integer.Goals as goal
 
 pub returns-then-value-lt0 : goal.returns-then-value-lt0
@@ -17,11 +11,11 @@ returns-then-value-lt0 c =
     let number = c.put_natural in
     let g = negative c.args.value (simp (to_z-of_z c.ranges.value) at c.if-value-lt0.true) in
     subst
-    (λ (z : ℤ). WroteInteger c.args.out.now c.args.at z number.result number.new.0)
+    (λ (z : ℤ). WroteInteger c.args.out.now c.args.at z number.result number.new.out)
     (sym g.1)
     (record {
       middle = sign.result;
-      signed = sign.new.0;
+      signed = sign.new.out;
       sign = sign.ensures;
       number = rw (c.absolute.ensures ∙ ap nat_abs (to_z-of_z c.ranges.value ∙ g.1)) at number.ensures;
     })
@@ -31,6 +25,6 @@ returns c =
     let number = c.put_natural-2 in
     let g = positive c.args.value (simp (to_z-of_z c.ranges.value) at c.if-value-lt0.false) in
     subst
-    (λ (z : ℤ). WroteInteger c.args.out.now c.args.at z number.result number.new.0)
+    (λ (z : ℤ). WroteInteger c.args.out.now c.args.at z number.result number.new.out)
     (sym g.1)
     (rw (c.absolute-2.ensures ∙ ap nat_abs (to_z-of_z c.ranges.value ∙ g.1)) at number.ensures)

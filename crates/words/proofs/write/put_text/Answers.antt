@@ -2,10 +2,6 @@ use native.Mathlib.Omega.{arith}
 use borrow.Author.Tests.{le-leb, lt-leb}
 use Prim.Native.Nat.{◌+◌, ◌≤◌, ◌<◌}
 use lib.ListN.{length}
-use borrow.Author.Rules.{rules}
-use Rattle.words.proofs.write.put_text.Reads as reads
-use Rattle.words.proofs.write.put_text.Lts as lts
-use Rattle.words.proofs.write.copy.Reads as copy-reads
 use Rattle.words.proofs.write.put_text.Goals as goal
 
 pub returns-then-out-text : goal.returns-then-out-text
