@@ -3,7 +3,7 @@
 
 pub mod fronts;
 
-use libc::STDOUT_FILENO;
+use std::io::Stdout;
 use words::{LINE_FEED, SPACE};
 
 // What a buffer that is answered held before a call wrote into it.
@@ -88,14 +88,15 @@ fn put_digits(out: &mut [u8], from: usize, bytes: &[u8]) -> usize {
 }
 
 // Sends what is written up to `at` if that is much, and answers where to write on.
-pub fn room(out: &[u8], at: usize, much: usize) -> usize {
+pub fn room(to: Stdout, out: &[u8], at: usize, much: usize) -> usize {
     if at < much {
         return at;
     }
-    send(out, at);
+    send(to, out, at);
     0
 }
 
-pub fn send(out: &[u8], at: usize) {
-    io::write_all(STDOUT_FILENO, fronts::bytes(out, at));
+// Nothing is told where it could not be sent.
+pub fn send(to: Stdout, out: &[u8], at: usize) {
+    let _ = to.write_all(fronts::bytes(out, at));
 }
