@@ -1,0 +1,43 @@
+use mathlib.Core.Path.{◌≡◌, ◌∙◌, ap₂}
+use mathlib.Core.Bool.{true}
+use lib.IntN.{ℤ}
+use mir.Syntax.{w32}
+use mir.Val.{to_z, of_z}
+use Rattle.plane.specs.Place.{place_of, in_range}
+use Rattle.plane.specs.Points.{Point}
+use Rattle.plane.proofs.Place.{held}
+use Rattle.classes.specs.Classes.{vertex_class}
+use Rattle.ring.specs.Edges.{corner}
+use Rattle.ring.proofs.Stretch.{corner_readable}
+use Rattle.seen.proofs.corner_class.Goals as goal
+use Rattle.seen.proofs.corner_class.Goals.{After-y_of}
+
+pub x_of-requires : goal.x_of-requires
+x_of-requires c = corner_readable c.requires.1 c.requires.2
+
+pub y_of-requires : goal.y_of-requires
+y_of-requires c = corner_readable c.requires.1 c.requires.2
+
+read_of : (z w : ℤ) → z ≡ w → in_range w ≡ true → to_z w32 (of_z w32 z) ≡ w
+read_of z w e h = rw e (held w h)
+
+module _ (c : After-y_of) where
+  abbrev A : Point
+  A = corner c.args.xs.now c.args.from c.args.k
+
+  x-is : to_z w32 (of_z w32 c.x_of.result) ≡ A.x
+  x-is = read_of _ _ c.x_of.ensures (corner_readable c.requires.1 c.requires.2).range.x
+
+  y-is : to_z w32 (of_z w32 c.y_of.result) ≡ A.y
+  y-is = read_of _ _ c.y_of.ensures (corner_readable c.requires.1 c.requires.2).range.y
+
+pub vertex_class-requires : goal.vertex_class-requires
+vertex_class-requires c =
+    let s = (goal.at.vertex_class-requires c).After-y_of in
+    let r = (corner_readable c.requires.1 c.requires.2).range in
+    (c.requires.0, rw (x-is s) r.x, rw (y-is s) r.y)
+
+pub returns : goal.returns
+returns c =
+    let s = (goal.at.returns c).After-y_of in
+    c.vertex_class.ensures ∙ ap₂ (λ (x y : ℤ). vertex_class c.args.c (place_of x) (place_of y)) (x-is s) (y-is s)
