@@ -3,7 +3,7 @@
 
 ghost use Rattle.io.specs.Counts.{IsPrefixLen};
 
-use libc::STDIN_FILENO;
+use std::io::{Read, Stdin};
 
 // How many bytes were read, and whether a read failed, so that there may have been more.
 #[derive(Clone, Copy)]
@@ -12,20 +12,26 @@ pub struct Input {
     pub failed: bool,
 }
 
-pub fn read_card(card: &mut [u8]) -> Input
+pub fn read_card(mut from: Stdin, card: &mut [u8]) -> Input
     ensures { IsPrefixLen result.count card.new }
 {
     let mut count = 0;
     while count < card.len() {
-        let got = libc::read(STDIN_FILENO, &mut card[count..]);
-        let more = io::count(got, &card[count..]);
-        if more == 0 {
-            return Input {
-                count,
-                failed: got < 0,
-            };
+        match from.read(&mut card[count..]) {
+            Ok(0) => {
+                return Input {
+                    count,
+                    failed: false,
+                };
+            }
+            Ok(more) => count += more,
+            Err(_) => {
+                return Input {
+                    count,
+                    failed: true,
+                };
+            }
         }
-        count += more;
     }
     Input {
         count,
