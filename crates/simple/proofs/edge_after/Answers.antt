@@ -1,0 +1,34 @@
+use native.Mathlib.Omega.{arith}
+use Rattle.ring.proofs.Stretch.{after_readable}
+use Rattle.ring.specs.Stretch.{Readable}
+use Rattle.simple.proofs.Round.{edge_made}
+use Rattle.simple.proofs.edge_after.Goals as goal
+use Rattle.simple.proofs.edge_after.Goals.{After-next_of-next}
+
+next-there : (c : After-next_of-next) → Readable c.args.outline.now c.next_of-next.result
+next-there c = rw c.next_of-next.ensures (after_readable c.requires.0 c.requires.1)
+
+pub overflow_mul-next : goal.overflow_mul-next
+overflow_mul-next c = omega (arith, (next-there c).room)
+
+pub place_at-bx-requires : goal.place_at-bx-requires
+place_at-bx-requires c = (omega (arith, (next-there c).room), (next-there c).range.x)
+
+pub overflow_mul-next-2 : goal.overflow_mul-next-2
+overflow_mul-next-2 c = omega (arith, (next-there (goal.at.overflow_mul-next-2 c).After-next_of-next).room)
+
+pub overflow_add-next : goal.overflow_add-next
+overflow_add-next c = omega (arith, (next-there (goal.at.overflow_add-next c).After-next_of-next).room)
+
+pub place_at-by-requires : goal.place_at-by-requires
+place_at-by-requires c =
+    let past = (goal.at.place_at-by-requires c).After-next_of-next in
+    ((next-there past).room, (next-there past).range.y)
+
+pub returns : goal.returns
+returns c =
+    let a = c.args in
+    let p = c.requires in
+    let next = c.next_of-next in
+    edge_made a.outline.now a.from a.n a.k p.1 a.g next.result c.place_at-bx.result c.place_at-by.result
+    p.2 next.ensures c.place_at-bx.ensures c.place_at-by.ensures
