@@ -3,7 +3,6 @@
 
 pub mod fronts;
 
-use std::io::Stdout;
 use words::{LINE_FEED, SPACE};
 
 // What a buffer that is answered held before a call wrote into it.
@@ -88,7 +87,7 @@ fn put_digits(out: &mut [u8], from: usize, bytes: &[u8]) -> usize {
 }
 
 // Sends what is written up to `at` if that is much, and answers where to write on.
-pub fn room(to: Stdout, out: &[u8], at: usize, much: usize) -> usize {
+pub fn room(to: &impl Print, out: &[u8], at: usize, much: usize) -> usize {
     if at < much {
         return at;
     }
@@ -97,6 +96,6 @@ pub fn room(to: Stdout, out: &[u8], at: usize, much: usize) -> usize {
 }
 
 // Nothing is told where it could not be sent.
-pub fn send(to: Stdout, out: &[u8], at: usize) {
+pub fn send(to: &impl Print, out: &[u8], at: usize) {
     let _ = to.write_all(fronts::bytes(out, at));
 }
