@@ -6,7 +6,7 @@ pub mod names;
 pub mod outlines;
 
 use answers::fronts;
-use std::io::{Read, Stdin, Stdout};
+use std::io::Read;
 use words::LINE_FEED;
 
 // Where the reading stands: the bytes of the chunk from `from` to `to` are still to be taken; `held` bytes of the line have been; answers
@@ -35,8 +35,8 @@ pub fn start() -> Place {
 // Takes the next line of the chunk; at its end sends the answers and reads on. What comes is a line, the end of the input, whose last line
 // may lack its line feed, or neither.
 pub fn next_piece(
-    from: Stdin,
-    to: Stdout,
+    from: &mut impl Read,
+    to: &impl Print,
     before: Place,
     chunk: &mut [u8; 65536],
     line: &mut [u8; 65536],
@@ -101,7 +101,7 @@ pub fn next_line(p: Place, at: usize) -> Place {
 }
 
 // Reads the next chunk; the input is over where nothing comes, as after a read that failed.
-fn read_on(mut from: Stdin, p: Place, chunk: &mut [u8]) -> Place {
+fn read_on(from: &mut impl Read, p: Place, chunk: &mut [u8]) -> Place {
     let n = from.read(chunk).unwrap_or(0);
     Place {
         from: 0,
