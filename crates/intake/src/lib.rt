@@ -1,9 +1,11 @@
 // A card from standard input.
 #![tactic(auto)]
 
+ghost use Rattle.std.specs.Prelude.{◌≡◌, ◌<◌, false, length, take};
+ghost use Rattle.std.specs.Io.KnownBytes.{Consumes, IsAtEnd};
 ghost use Rattle.io.specs.Counts.{IsPrefixLen};
 
-use std::io::{Read, Stdin};
+use std::io::Read;
 
 // How many bytes were read, and whether a read failed, so that there may have been more.
 #[derive(Clone, Copy)]
@@ -12,8 +14,11 @@ pub struct Input {
     pub failed: bool,
 }
 
-pub fn read_card(mut from: Stdin, card: &mut [u8]) -> Input
-    ensures { IsPrefixLen result.count card.new }
+// Reads until the buffer is full, the input is over or a read fails.
+pub fn read_card<R: Read>(from: &mut R, card: &mut [u8]) -> Input
+    ensures count { IsPrefixLen result.count card.new }
+    ensures bytes { Consumes (R.remaining from.old) (R.remaining from.new) (take result.count card.new) }
+    ensures end { result.failed ≡ false → result.count < length card.new → IsAtEnd (R.remaining from.new) }
 {
     let mut count = 0;
     while count < card.len() {
