@@ -65,15 +65,19 @@ turn_of-sum-requires c = placed (goal.at.turn_of-sum-requires c).After-edge_afte
 
 -- what the edges up to k have shown
 shown : (c : Joined-in_line)
-    → (c.if-in_line.repeated ≡ any_to (equal_at (xs (goal.at.turn_of-sum-requires c).After-edge_after-h) (from (goal.at.turn_of-sum-requires c).After-edge_after-h) (n (goal.at.turn_of-sum-requires c).After-edge_after-h)) (k (goal.at.turn_of-sum-requires c).After-edge_after-h + 1)) × (c.if-in_line.folded ≡ any_to (fold_at (xs (goal.at.turn_of-sum-requires c).After-edge_after-h) (from (goal.at.turn_of-sum-requires c).After-edge_after-h) (n (goal.at.turn_of-sum-requires c).After-edge_after-h)) (k (goal.at.turn_of-sum-requires c).After-edge_after-h + 1))
+    → let t = (goal.at.turn_of-sum-requires c).After-edge_after-h in
+    (c.if-in_line.repeated ≡ any_to (equal_at (xs t) (from t) (n t)) (k t + 1)) × (c.if-in_line.folded ≡ any_to (fold_at (xs t) (from t) (n t)) (k t + 1))
 shown c =
+    let t = (goal.at.turn_of-sum-requires c).After-edge_after-h in
     let l = c.loop-k in
     let e = c.in_line.ensures in
     elim c.if-in_line.branch [
-      | then-in_line w ↦ let r = shown_in_line (xs (goal.at.turn_of-sum-requires c).After-edge_after-h) (from (goal.at.turn_of-sum-requires c).After-edge_after-h) (n (goal.at.turn_of-sum-requires c).After-edge_after-h) (k (goal.at.turn_of-sum-requires c).After-edge_after-h) l.g c.edge_after-h.result (low (goal.at.turn_of-sum-requires c).After-edge_after-h) l.invariant.1 c.edge_after-h.ensures l.repeated l.folded l.invariant.2 l.invariant.3
+      | then-in_line w ↦
+          let r = shown_in_line (xs t) (from t) (n t) (k t) l.g c.edge_after-h.result (low t) l.invariant.1 c.edge_after-h.ensures l.repeated l.folded l.invariant.2 l.invariant.3
           w.equal_ends-repeated.result w.turns_back-folded.result (sym e ∙ w.if-in_line.true) w.equal_ends-repeated.ensures w.turns_back-folded.ensures in
           (w.repeated-is ∙ r.0, w.folded-is ∙ r.1)
-      | else-in_line w ↦ let r = shown_apart (xs (goal.at.turn_of-sum-requires c).After-edge_after-h) (from (goal.at.turn_of-sum-requires c).After-edge_after-h) (n (goal.at.turn_of-sum-requires c).After-edge_after-h) (k (goal.at.turn_of-sum-requires c).After-edge_after-h) l.g c.edge_after-h.result (low (goal.at.turn_of-sum-requires c).After-edge_after-h) l.invariant.1 c.edge_after-h.ensures l.repeated l.folded l.invariant.2 l.invariant.3
+      | else-in_line w ↦
+          let r = shown_apart (xs t) (from t) (n t) (k t) l.g c.edge_after-h.result (low t) l.invariant.1 c.edge_after-h.ensures l.repeated l.folded l.invariant.2 l.invariant.3
           (sym e ∙ w.if-in_line.false) in
           (w.repeated-is ∙ r.0, w.folded-is ∙ r.1)
     ]
