@@ -11,9 +11,7 @@ use Rattle.matrix.specs.Kept.{cell_in}
 use Rattle.drawing.specs.Stays.{marks}
 use Rattle.drawn.specs.Steps.{near_cell}
 use Rattle.drawn.proofs.Steps.{near_marked, nothing_new}
-use borrow.Author.Rules.{rules}
-use Rattle.drawn.proofs.with_edge.Statement.{statement}
-use Rattle.drawn.proofs.with_edge.Tie as tie
+use Rattle.drawn.proofs.with_edge.Goals as goal
 
 module _ (own : Box) (g : GridLines) (e : Edge) (set : ℕ) where
   abbrev edge : ℕ → Bool
@@ -25,21 +23,10 @@ module _ (own : Box) (g : GridLines) (e : Edge) (set : ℕ) where
       ∙ nothing_new (λ c. eqb (bit set c) 1) (near_cell g e) edge (λ t h m. near_marked own g e (t / 3) (t % 3) m) (sym (λ i. bit_or (s i) (n i)) ∙ had ∙ s)
       ∙ ap (λ (z : ℕ). bit_or z (set_of edge 9)) (sym s)
 
-near-cells-requires : tie.Need-near-cells-requires
-near-cells-requires c κs = search rules
+pub returns-then-set-near_cells : goal.returns-then-set-near_cells
+returns-then-set-near_cells c =
+    let a = c.args in
+    passed a.own a.g a.e a.set c.requires.2 c.near_cells.ensures c.if-set-near_cells.true
 
-returns : tie.Need-returns
-returns c =
-    let n = c.before in
-    let s = n.before in
-    let a = s.args in
-    passed a.own_val a.g a.e a.set s.requires.2 n.near-cells.ensures c.if1.true
-
-edge-marks-requires : tie.Need-edge-marks-requires
-edge-marks-requires c κs = search rules
-
-returns-2 : tie.Need-returns-2
-returns-2 c = ap (bit_or c.before.before.before.args.set) c.edge_marks.ensures
-
-pub with-edge-spec : {M : Type 1} → statement M
-with-edge-spec = tie.close (tie.spec near-cells-requires returns edge-marks-requires returns-2)
+pub returns : goal.returns
+returns c = ap (bit_or c.args.set) c.edge_marks.ensures

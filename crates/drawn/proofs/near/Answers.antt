@@ -1,0 +1,25 @@
+use mathlib.Core.Path.{◌≡◌, refl, ◌∙◌, ap}
+use mathlib.Core.Bool.{false}
+use Prim.Native.Nat.{ℕ, ◌≤◌, ◌<◌, min, max}
+use native.Mathlib.Omega.{arith}
+use borrow.Author.Tests.{le-leb, lt-leb}
+use lib.Dec.{leb}
+use Rattle.drawn.specs.Steps.{near}
+use Rattle.drawn.proofs.near.Goals as goal
+
+module _ (a b lo hi : ℕ) where
+  before-it : hi < min a b → false ≡ near a b lo hi
+  unfolding near
+  before-it h = rw (lt-leb (min a b) hi h) refl
+
+  by-its-end : min a b ≤ hi → leb lo (max a b) ≡ near a b lo hi
+  unfolding near
+  by-its-end h = rw (le-leb (min a b) hi h) refl
+
+pub returns-then-hi-lesser : goal.returns-then-hi-lesser
+returns-then-hi-lesser c = let a = c.args in before-it a.a a.b a.lo a.hi (omega (arith, c.if-hi-lesser.true, c.lesser.ensures))
+
+pub returns : goal.returns
+returns c =
+    let a = c.args in
+    ap (leb a.lo) c.greater.ensures ∙ by-its-end a.a a.b a.lo a.hi (omega (arith, c.if-hi-lesser.false, c.lesser.ensures))
