@@ -7,7 +7,7 @@
 --   FirstAt first L M i j         the grid has a cell in row i and column j, it lies inside the first region's box, and the first region has the tile
 --                                 of the second's box around it;  SecondAt second L M i j  the same of the second region
 --   Lies first second L M k       some such cell of the first region lies in direction k from some such cell of the second
-use Rattle.std.specs.Prelude.{◌≡◌, ◌↔◌, ◌⊎◌, ◌≢◌, ℕ, ◌+◌, ◌*◌, ◌/◌, ◌%◌, ◌<◌, ℤ, get_or}
+use Rattle.std.specs.Prelude.{◌≡◌, ◌⊎◌, ℕ, ◌+◌, ◌*◌, ◌/◌, ◌%◌, ℤ, get_or}
 use Rattle.plane.specs.Points.{Lines}
 use Rattle.region.specs.Region.{Region}
 use Rattle.region.specs.Rules.{KeepsRules, RefusedWith}
