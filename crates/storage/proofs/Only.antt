@@ -46,7 +46,7 @@ ends_only κs a r r' s s' p q = p ∙ sym q
 pub outline_only : (κs : _) (a : _) (r r' : _) (s s' : _) → outline-reads.Post κs a r s → outline-reads.Post κs a r' s' → r.now ≡ r'.now
 outline_only κs a r r' s s' p q = p ∙ sym q
 
-pub row_only : (κs : _) (a : _) (r r' : _) (s s' : _) → row_reads.Post κs a r s → row_reads.Post κs a r' s' → (r.now ≡ r'.now) × (r.ref_ptr ≡ r'.ptr)
+pub row_only : (κs : _) (a : _) (r r' : _) (s s' : _) → row_reads.Post κs a r s → row_reads.Post κs a r' s' → (r.now ≡ r'.now) × (r.ref_ptr ≡ r'.ref_ptr)
 row_only κs a r r' s s' p q = (p.0 ∙ sym q.0, p.1 ∙ sym q.1)
 
 pub clear_only : (κs : _) (a : _) (r r' : _) (s s' : _) → clear_reads.Post κs a r s → clear_reads.Post κs a r' s'

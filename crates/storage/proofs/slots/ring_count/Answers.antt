@@ -1,0 +1,12 @@
+use mathlib.Core.Path.{refl}
+use Prim.Native.Nat.{◌*◌}
+use native.Mathlib.Omega.{arith}
+use Rattle.layout.specs.Slots.{rings_in}
+use Rattle.storage.proofs.slots.ring_count.Goals as goal
+
+pub overflow_cast-result : goal.overflow_cast-result
+overflow_cast-result c = omega (arith, c.shared_slice_known-1.given (9 * c.args.slot))
+
+pub returns : goal.returns
+unfolding rings_in
+returns c = refl
