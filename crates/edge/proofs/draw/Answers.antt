@@ -1,27 +1,21 @@
 use mathlib.Core.Path.{◌≡◌, sym, ◌∙◌, ap}
-use mathlib.Core.Bool.{Bool}
 use Prim.Native.Nat.{ℕ, ◌+◌, ◌/◌, ◌%◌, ◌^◌, max}
 use native.Mathlib.Omega.{arith}
 use native.Mathlib.Nat.{div-one}
 use lib.Bits.{bit_or}
-use lib.Dec.{ltb, leb, eqb}
+use lib.Dec.{ltb, eqb}
 use mir.Val.{bool_byte}
 use Rattle.plane.specs.Folds.{sum_to}
-use Rattle.plane.specs.TileSet.{one_if, set_of}
+use Rattle.plane.specs.TileSet.{set_of}
 use Rattle.plane.proofs.Bytes.{byte_is, byte_le}
 use Rattle.plane.proofs.Folds.{sum_step, sum_none}
 use Rattle.plane.proofs.TileSet.{any_set, any_set_none, any_set_more}
 use Rattle.edge.specs.declared.Walk.{Walk}
-use Rattle.edge.specs.TileList.{digit_in, count_in, stands_in}
+use Rattle.edge.specs.TileList.{count_in, stands_in}
 use Rattle.edge.specs.Drawn.{drawn}
 use Rattle.edge.proofs.TileList.{digit_next, digit_there}
 use Rattle.edge.proofs.draw.Goals as goal
-
-abbrev standsAt : ℕ → ℕ → ℕ → Bool
-standsAt v j t = eqb (digit_in v j) (t + 1)
-
-abbrev there : ℕ → ℕ → ℕ
-there v j = one_if (leb (16 ^ j) v)
+use Rattle.edge.proofs.draw.Invariants.{standsAt, there}
 
 -- digit j, where the rest is what is left of v
 module _ (v j rest : ℕ) (e : rest ≡ v / 16 ^ j) where

@@ -1,3 +1,4 @@
+-- The loop's invariant: of the first j digits, the tiles for which they stand and how many there are; and the digits that are left.
 use mathlib.Core.Path.{◌≡◌}
 use mathlib.Core.Bool.{Bool}
 use Prim.Native.Nat.{ℕ, ◌+◌, ◌-◌, ◌/◌, ◌^◌, ◌≤◌}
@@ -8,12 +9,10 @@ use Rattle.plane.proofs.TileSet.{any_set}
 use Rattle.edge.specs.TileList.{digit_in}
 use Rattle.edge.proofs.draw.Given as goal
 
--- The loop's invariant: of the first j digits, the tiles for which they stand and how many there are; and the digits that are left.
-
-abbrev standsAt : ℕ → ℕ → ℕ → Bool
+abbrev pub standsAt : ℕ → ℕ → ℕ → Bool
 standsAt v j t = eqb (digit_in v j) (t + 1)
 
-abbrev there : ℕ → ℕ → ℕ
+abbrev pub there : ℕ → ℕ → ℕ
 there v j = one_if (leb (16 ^ j) v)
 
 abbrev pub invariant-loop-j : goal.invariant-loop-j
