@@ -13,7 +13,7 @@ use Rattle.reading.proofs.several.read_cells.Reads as several-reads
 pub read_only : (κs : _) (a : _) (r r' : Reading) (s s' : _) → read-reads.Post κs a r s → read-reads.Post κs a r' s' → r ≡ r'
 read_only κs a r r' s s' p q = p.0 ∙ sym q.0
 
-pub row_only : (κs : _) (a : _) (r r' : _) (s s' : _) → row_reads.Post κs a r s → row_reads.Post κs a r' s' → (r.now ≡ r'.now) × (r.ref_ptr ≡ r'.ptr)
+pub row_only : (κs : _) (a : _) (r r' : _) (s s' : _) → row_reads.Post κs a r s → row_reads.Post κs a r' s' → (r.now ≡ r'.now) × (r.ref_ptr ≡ r'.ref_ptr)
 row_only κs a r r' s s' p q = (p.0 ∙ sym q.0, p.1 ∙ sym q.1)
 
 pub tiles_only : (κs : _) (a : _) (r r' : ℕ) (s s' : _) → tiles-reads.Post κs a r s → tiles-reads.Post κs a r' s' → r ≡ r'
