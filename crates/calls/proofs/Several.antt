@@ -31,10 +31,10 @@ use Rattle.layout.specs.Sheet.{last_slot, RightTables, wrong_tables}
 use Rattle.layout.specs.Slots.{empty_in, cell_in}
 use Rattle.layout.proofs.RightLists.{tables_mean}
 use Rattle.calls.specs.declared.Reading.{Reading}
-use Rattle.calls.specs.Readings.{read_number, read_value, reading_of, reading_number, reading_value}
+use Rattle.calls.specs.Readings.{read_number, reading_of, reading_number, reading_value}
 use Rattle.calls.specs.Several.{pair_count, odd_pairs, primary_of, reference_of, refused_from, result_of, pair_result, several_number, several}
 use Rattle.calls.specs.Says.{Readable, ReadSays, read_done, read_lists, read_slot, read_empty, SeveralSays, several_done, several_lists, several_odd, several_short}
-use Rattle.calls.proofs.Readings.{read_means, cell_answered, number_answered}
+use Rattle.calls.proofs.Readings.{cell_answered, number_answered}
 use Rattle.calls.proofs.Says.{read_says}
 
 -- ---- the number
