@@ -6,6 +6,7 @@ use answers::{Reply, fronts};
 use input::{Place, names};
 use kept::{COORDINATES_KEPT, RECORDS_KEPT, RELATIONS_KEPT};
 use layout::lists::{COORDINATES, RECORDS, RELATIONS};
+use std::io::Read;
 
 // The bytes that a line may have.
 const LONGEST_LINE: usize = 65535;
@@ -14,15 +15,17 @@ const REMARK: u8 = 35;
 // From here on what is written is sent before the next answer: any answer has room behind it.
 const MUCH: usize = 32768;
 
-fn main() {
-    let mut chunk = io::large_buffer();
-    let mut line = io::large_buffer();
+fn main(rt: HostRuntime) {
+    let mut chunk = [0u8; 65536];
+    let mut line = [0u8; 65536];
     let mut out = [0u8; 131072];
     let mut xs = [0i32; COORDINATES_KEPT];
     let mut records = [0u16; RECORDS_KEPT];
     let mut relations = [0u16; RELATIONS_KEPT];
     let mut lent = [COORDINATES, RECORDS, RELATIONS];
     serve(
+        &mut rt.stdin(),
+        &rt,
         &mut chunk,
         &mut line,
         &mut out,
@@ -35,6 +38,8 @@ fn main() {
 
 // A proved loop has to end, and nothing says that the input does. So the loop counts its turns down, from a number that no run uses up.
 fn serve(
+    from: &mut impl Read,
+    to: &impl Print,
     chunk: &mut [u8; 65536],
     line: &mut [u8; 65536],
     out: &mut [u8; 131072],
@@ -46,9 +51,9 @@ fn serve(
     let mut p = input::start();
     let mut turns = u64::MAX;
     while turns > 0 {
-        p = turn(p, chunk, line, out, xs, records, relations, lent);
+        p = turn(from, to, p, chunk, line, out, xs, records, relations, lent);
         if p.is_over {
-            answers::send(out, p.at);
+            answers::send(to, out, p.at);
             return;
         }
         turns -= 1;
@@ -57,6 +62,8 @@ fn serve(
 
 // Answers the next line, if it is whole or the input is over.
 fn turn(
+    from: &mut impl Read,
+    to: &impl Print,
     before: Place,
     chunk: &mut [u8; 65536],
     line: &mut [u8; 65536],
@@ -66,9 +73,9 @@ fn turn(
     relations: &mut [u16; RELATIONS_KEPT],
     lent: &mut [usize; 3],
 ) -> Place {
-    let p = input::next_piece(before, chunk, line, out);
+    let p = input::next_piece(from, to, before, chunk, line, out);
     if p.is_line || p.is_over {
-        let at = answer(line, p.held, out, p.at, xs, records, relations, lent);
+        let at = answer(to, line, p.held, out, p.at, xs, records, relations, lent);
         return input::next_line(p, at);
     }
     p
@@ -76,6 +83,7 @@ fn turn(
 
 // Answers the line that the first bytes of `line` are, and answers the place after that.
 fn answer(
+    to: &impl Print,
     line: &[u8; 65536],
     held: usize,
     out: &mut [u8; 131072],
@@ -85,7 +93,7 @@ fn answer(
     relations: &mut [u16; RELATIONS_KEPT],
     lent: &mut [usize; 3],
 ) -> usize {
-    let at = answers::room(out, from, MUCH);
+    let at = answers::room(to, out, from, MUCH);
     if LONGEST_LINE < held {
         return answers::finish(Reply::Bad, out, at);
     }
