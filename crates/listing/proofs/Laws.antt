@@ -1,14 +1,18 @@
 -- What the program's reading rests on.
 --   long_refused     an input of more bytes than a card can have is refused by its length
 --   listing_cut      so an input and its first 17,037 bytes have the same list
-use mathlib.Core.Path.{◌≡◌, refl, sym, ap}
+use mathlib.Core.Path.{◌≡◌, refl, sym, ap, ◌∙◌}
 use mathlib.Core.Bool.{Bool, true, false}
 use mathlib.Core.List.{List}
 use Prim.Native.Nat.{ℕ, ◌<◌}
 use native.Mathlib.Omega.{arith}
 use native.Mathlib.Decide.{dec_lt}
 use lib.ListN.{length, take}
+use Rattle.std.specs.Prelude.{Option, None, Some, IfSome, ◌≤◌, ◌++◌}
+use Rattle.std.specs.Io.KnownBytes.{Consumes, IsAtEnd}
 use lib.Seq.{take_all, length-take-le}
+use Rattle.std.proofs.lemmas.List.{append-nil}
+use Rattle.std.proofs.Math.Seq.{take-append_seam}
 use Rattle.card.specs.CardNumber.{wrong_header, card_number}
 use Rattle.card.proofs.Tests.{header_means}
 use Rattle.card.proofs.Good.{card_header_wrong}
@@ -30,4 +34,16 @@ listing_cut b =
     elim (dec_lt 17037 (length b)) [
       | yes l ↦ same (take 17037 b) b (long_refused (take 17037 b) (omega (arith, length-take-le 17037 b (omega arith)))) (long_refused b (omega arith))
       | no h ↦ ap listing (take_all 17037 b (omega arith))
+    ]
+
+-- What the list of an input rests on: all of it was read, or as much as tells that it is too long.
+pub listing_read : (old new : Option (List ℕ)) (card : List ℕ) (count : ℕ) → length card ≡ 17037 → count ≤ length card → Consumes old new (take count card) → (count < length card → IsAtEnd new) → IfSome old (λ input. listing (take count card) ≡ listing input)
+listing_read None new card count size h read end = tt
+listing_read (Some input) None card count size h read end = absurd read
+listing_read (Some input) (Some rest) card count size h read end =
+    elim (dec_lt count (length card)) [
+      | yes l ↦ ap listing (sym (read ∙ ap (λ r. take count card ++ r) (end l) ∙ append-nil (take count card)))
+      | no m ↦
+          let full : length (take count card) ≡ 17037 = omega (arith, length-take-le count card h) in
+          ap listing (sym (ap (take 17037) read ∙ ap (λ n. take n (take count card ++ rest)) (sym full) ∙ take-append_seam (take count card) rest)) ∙ listing_cut input
     ]

@@ -1,10 +1,11 @@
 // What `listing --version` prints. The version is also in include/direction.h and CHANGELOG.md, and the gate holds them to each other.
-use libc::{STDERR_FILENO, STDOUT_FILENO};
+use std::rt::Env;
 
-// Whether the first argument is --version. An argument of more than nine bytes is not read, and answers 0.
-pub fn is_asked() -> bool {
+// Whether the first argument is --version. An argument of more than nine bytes is not read.
+pub fn is_asked(rt: &impl Env) -> bool {
     let mut word = [0u8; 9];
-    if os::arg(1, &mut word) < 9 {
+    let length = rt.arg(1, &mut word).unwrap_or(0);
+    if length < 9 {
         return false;
     }
     is_dashes(&word) && is_version(&word)
@@ -24,11 +25,8 @@ fn is_version(word: &[u8; 9]) -> bool {
         && word[8] == b'n'
 }
 
-pub fn print() {
-    if !io::write_all(STDOUT_FILENO, b"listing 1.1.0\n") {
-        io::write_all(
-            STDERR_FILENO,
-            b"listing: the version could not be written\n",
-        );
+pub fn print(to: &(impl Print + Eprint)) {
+    if to.write_all(b"listing 1.1.0\n").is_err() {
+        let _ = to.eprintln("listing: the version could not be written");
     }
 }
