@@ -10,7 +10,7 @@ use native.Mathlib.Omega.{arith}
 use native.Mathlib.Decide.{ℕ_discrete}
 use native.Mathlib.Nat.{lt_irrefl}
 use lib.Dec.{eqb}
-use lib.ListN.{length, get_or}
+use lib.ListN.{get_or}
 use borrow.Author.Tests.{eq-eqb, ne_eqb}
 use Rattle.plane.specs.Folds.{sum_to}
 use Rattle.plane.specs.TileSet.{one_if}
@@ -18,12 +18,11 @@ use Rattle.plane.proofs.Folds.{sum_same}
 use Rattle.region.specs.Region.{Region, Parcel, nothing, outline}
 use Rattle.layout.specs.Sheet.{Sheet, slots}
 use Rattle.layout.specs.Standing.{occupied, parcels_below}
-use Rattle.layout.specs.Slots.{cell_in}
 use Rattle.reading.proofs.row.Reads as row_reads
-use Rattle.runs.specs.Runs.{Call, after_run, Stands, standing}
+use Rattle.runs.specs.Runs.{Call, Stands, standing}
 use Rattle.runs.specs.Code.{Ran}
 use Rattle.runs.specs.Neighbours.{filled_cells, others}
-use Rattle.runs.proofs.Runs.{standing_means, stands_slot}
+use Rattle.runs.proofs.Runs.{standing_means}
 use Rattle.runs.proofs.Cells.{standing_some}
 use Rattle.runs.proofs.Readings as readings
 
