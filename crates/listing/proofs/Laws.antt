@@ -1,6 +1,7 @@
 -- What the program's reading rests on.
 --   long_refused     an input of more bytes than a card can have is refused by its length
 --   listing_cut      so an input and its first 17,037 bytes have the same list
+--   listing_read     so what was read has the list of the whole input, where it was read to its end or is as long as the buffer
 use mathlib.Core.Path.{◌≡◌, refl, sym, ap, ◌∙◌}
 use mathlib.Core.Bool.{Bool, true, false}
 use mathlib.Core.List.{List}
@@ -36,7 +37,6 @@ listing_cut b =
       | no h ↦ ap listing (take_all 17037 b (omega arith))
     ]
 
--- What the list of an input rests on: all of it was read, or as much as tells that it is too long.
 pub listing_read : (old new : Option (List ℕ)) (card : List ℕ) (count : ℕ) → length card ≡ 17037 → count ≤ length card → Consumes old new (take count card) → (count < length card → IsAtEnd new) → IfSome old (λ input. listing (take count card) ≡ listing input)
 listing_read None new card count size h read end = tt
 listing_read (Some input) None card count size h read end = absurd read
