@@ -7,24 +7,17 @@ mod draw;
 use answers::fronts::bytes;
 use draw::draw;
 use intake::read_card;
-use libc::{STDERR_FILENO, STDOUT_FILENO};
 
 // A card has at most 17,036 bytes; one more tells a longer input. The buffer has room for the picture of any card.
-fn main() {
+fn main(rt: HostRuntime) {
     let mut card = [0u8; 17037];
-    let input = read_card(&mut card);
+    let input = read_card(&mut rt.stdin(), &mut card);
     if input.failed {
-        io::write_all(
-            STDERR_FILENO,
-            b"picture: the input could not be read to its end\n",
-        );
+        let _ = rt.eprintln("picture: the input could not be read to its end");
     }
     let mut out = [0u8; 131072];
-    let end = draw(bytes(&card, input.count), &mut out);
-    if !io::write_all(STDOUT_FILENO, bytes(&out, end)) {
-        io::write_all(
-            STDERR_FILENO,
-            b"picture: the picture could not be written to its end\n",
-        );
+    let end = draw(&rt, bytes(&card, input.count), &mut out);
+    if rt.write_all(bytes(&out, end)).is_err() {
+        let _ = rt.eprintln("picture: the picture could not be written to its end");
     }
 }
