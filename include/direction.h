@@ -1,7 +1,7 @@
 /* direction.h: where two parcels lie from each other. One call for the C host beside the steering.
  * SPDX-License-Identifier: Apache-2.0
  *
- * The archive target/staticlib/libhost.a (made by `rt staticlib host`, for x86-64 Linux) holds the function below and nothing else that a
+ * The archive target/staticlib/libhost.a (made by `tools/archive`, for x86-64 Linux) holds the function below and nothing else that a
  * linker sees. It is proved: for every card of any content and length, and every report buffer of any length, the call ends, answers
  * exactly what is described here, and changes no other memory. What a proof does not reach, the compiler and this header, is tested: the
  * archive is run against a second program that was written apart from it.
