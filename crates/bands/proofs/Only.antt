@@ -3,17 +3,17 @@
 --   lay_bands_only                    so are the three lists at exit
 use mathlib.Core.Path.{◌≡◌, sym, ◌∙◌}
 use Prim.Native.Nat.{ℕ}
-use Rattle.bands.proofs.place_in.Reads as IsPlace-in
-use Rattle.bands.proofs.found_near.Reads as found-near
-use Rattle.bands.proofs.lay_bands.Reads as lay-bands
+use Rattle.bands.proofs.place_in.Reads as place_in
+use Rattle.bands.proofs.found_near.Reads as found_near
+use Rattle.bands.proofs.lay_bands.Reads as lay_bands
 
-pub place_in_only : (κs : _) (a : _) (r r' : ℕ) (s s' : _) → IsPlace-in.Post κs a r s → IsPlace-in.Post κs a r' s' → r ≡ r'
+pub place_in_only : (κs : _) (a : _) (r r' : ℕ) (s s' : _) → place_in.Post κs a r s → place_in.Post κs a r' s' → r ≡ r'
 place_in_only κs a r r' s s' p q = p ∙ sym q
 
-pub found_near_only : (κs : _) (a : _) (r r' : ℕ) (s s' : _) → found-near.Post κs a r s → found-near.Post κs a r' s' → r ≡ r'
+pub found_near_only : (κs : _) (a : _) (r r' : ℕ) (s s' : _) → found_near.Post κs a r s → found_near.Post κs a r' s' → r ≡ r'
 found_near_only κs a r r' s s' p q = p ∙ sym q
 
-pub lay_bands_only : (κs : _) (a : _) (r r' : _) (s s' : _) → lay-bands.Post κs a r s → lay-bands.Post κs a r' s'
+pub lay_bands_only : (κs : _) (a : _) (r r' : _) (s s' : _) → lay_bands.Post κs a r s → lay_bands.Post κs a r' s'
     → (s.1.1.1.1.1.1.0.now ≡ s'.1.1.1.1.1.1.0.now)
     × (s.1.1.1.1.1.1.1.0.now ≡ s'.1.1.1.1.1.1.1.0.now)
     × (s.1.1.1.1.1.1.1.1.0.now ≡ s'.1.1.1.1.1.1.1.1.0.now)

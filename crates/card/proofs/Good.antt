@@ -10,7 +10,7 @@ use mathlib.Core.List.{List}
 use Prim.Native.Nat.{ℕ, zero, suc, ◌+◌, ◌-◌, ◌<◌}
 use native.Mathlib.Omega.{arith}
 use Rattle.plane.proofs.Logic.{iff_join, iff_and}
-use Rattle.region.specs.Refusals.{number_if, first_number, card_header, card_parcels_lem, card_vertices_lem}
+use Rattle.region.specs.Refusals.{number_if, first_number, card_header, card_parcels, card_vertices}
 use Rattle.region.proofs.Keeps.{keeps_fewer, sized}
 use Rattle.region.proofs.Check.{shape_number_none}
 use Rattle.region.proofs.OrElse.{or_else_none, number_if_none, first_number_none}
@@ -37,9 +37,9 @@ module _ (b : List ℕ) where
   unfolding card_number
   card_tests =
       iff_join (or_else_none (number_if (wrong_header b) card_header) _) (iff_and (number_if_none (wrong_header b) card_header)
-      (iff_join (or_else_none (number_if (wrong_parcels b) card_parcels_lem) _) (iff_and (number_if_none (wrong_parcels b) card_parcels_lem)
+      (iff_join (or_else_none (number_if (wrong_parcels b) card_parcels) _) (iff_and (number_if_none (wrong_parcels b) card_parcels)
       (iff_join (or_else_none (first_number (sizes_number b) (parcel_count b)) _) (iff_and same
-      (iff_join (or_else_none (number_if (wrong_vertices b) card_vertices_lem) _) (iff_and (number_if_none (wrong_vertices b) card_vertices_lem)
+      (iff_join (or_else_none (number_if (wrong_vertices b) card_vertices) _) (iff_and (number_if_none (wrong_vertices b) card_vertices)
       (first_number_none (shape_number b) (parcel_count b)))))))))
     where
       same : (first_number (sizes_number b) (parcel_count b) ≡ 0) ↔ (first_number (sizes_number b) (parcel_count b) ≡ 0)

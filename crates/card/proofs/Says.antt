@@ -15,7 +15,7 @@ use Rattle.plane.proofs.Logic.{clash, is_false, is_true}
 use Rattle.plane.proofs.Folds.{any_means}
 use Rattle.region.specs.declared.Checked.{Checked}
 use Rattle.region.specs.declared.Checked.TheVariants.{Accepted, Refused}
-use Rattle.region.specs.Refusals.{number_if, or_else, first_number, ring_length, list_size, card_header, card_parcels_lem, card_vertices_lem}
+use Rattle.region.specs.Refusals.{number_if, or_else, first_number, ring_length, list_size, card_header, card_parcels, card_vertices}
 use Rattle.region.specs.Region.{most_vertices, last_end}
 use Rattle.region.specs.Rules.{Breaks, Keeps}
 use Rattle.region.specs.Check.{short_at, shape_of, number_of}
@@ -83,7 +83,7 @@ module _ (b : List ℕ) where
   -- ---- the card's number, by what decides it
   card_by : (h p : Bool) (z : ℕ) (v : Bool) (s : ℕ) → wrong_header b ≡ h → wrong_parcels b ≡ p → first_number (sizes_number b) (parcel_count b) ≡ z → wrong_vertices b ≡ v
       → first_number (shape_number b) (parcel_count b) ≡ s
-      → card_number b ≡ or_else (number_if h card_header) (or_else (number_if p card_parcels_lem) (or_else z (or_else (number_if v card_vertices_lem) s)))
+      → card_number b ≡ or_else (number_if h card_header) (or_else (number_if p card_parcels) (or_else z (or_else (number_if v card_vertices) s)))
   unfolding card_number
   card_by h p z v s eh ep ez ev es = rw (eh, ep, ez, ev, es) refl
 

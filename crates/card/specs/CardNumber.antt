@@ -7,7 +7,7 @@
 --   card_number b        the card's own refusal, or 0: the card is good. Its meaning: proofs/Good, `good_means`
 use Rattle.std.specs.Prelude.{Bool, not, ◌&&◌, ◌||◌, List, ℕ, ◌-◌, leb, ltb, eqb, length}
 use Rattle.plane.specs.Folds.{any_to, sum_to}
-use Rattle.region.specs.Refusals.{number_if, or_else, first_number, ring_length, list_size, card_header, card_parcels_lem, card_vertices_lem}
+use Rattle.region.specs.Refusals.{number_if, or_else, first_number, ring_length, list_size, card_header, card_parcels, card_vertices}
 use Rattle.region.specs.Region.{most_rings, most_vertices, last_end}
 use Rattle.region.specs.Check.{short_at, shape_of, number_of}
 use Rattle.endian.specs.Bytes.{u16_at}
@@ -40,6 +40,6 @@ shape_number b k = number_of (shape_of (region_at b k))
 unfoldable pub card_number : List ℕ → ℕ
 card_number b =
     or_else (number_if (wrong_header b) card_header)
-    (or_else (number_if (wrong_parcels b) card_parcels_lem)
+    (or_else (number_if (wrong_parcels b) card_parcels)
     (or_else (first_number (sizes_number b) (parcel_count b))
-    (or_else (number_if (wrong_vertices b) card_vertices_lem) (first_number (shape_number b) (parcel_count b)))))
+    (or_else (number_if (wrong_vertices b) card_vertices) (first_number (shape_number b) (parcel_count b)))))

@@ -2,11 +2,11 @@
 use mathlib.Core.Path.{◌≡◌, sym, ◌∙◌}
 use Rattle.pair.specs.declared.Answer.{Answer}
 use Rattle.drawn.specs.declared.DrawnMatrix.{DrawnMatrix}
-use Rattle.carried.proofs.pair_in.Reads as pair-in-reads
-use Rattle.carried.proofs.drawn_in.Reads as drawn-in-reads
+use Rattle.carried.proofs.pair_in.Reads as pair_in_reads
+use Rattle.carried.proofs.drawn_in.Reads as drawn_in_reads
 
-pub pair_in_only : (κs : _) (a : _) (r r' : Answer) (s s' : _) → pair-in-reads.Post κs a r s → pair-in-reads.Post κs a r' s' → r ≡ r'
+pub pair_in_only : (κs : _) (a : _) (r r' : Answer) (s s' : _) → pair_in_reads.Post κs a r s → pair_in_reads.Post κs a r' s' → r ≡ r'
 pair_in_only κs a r r' s s' p q = p ∙ sym q
 
-pub drawn_in_only : (κs : _) (a : _) (r r' : DrawnMatrix) (s s' : _) → drawn-in-reads.Post κs a r s → drawn-in-reads.Post κs a r' s' → r ≡ r'
+pub drawn_in_only : (κs : _) (a : _) (r r' : DrawnMatrix) (s s' : _) → drawn_in_reads.Post κs a r s → drawn_in_reads.Post κs a r' s' → r ≡ r'
 drawn_in_only κs a r r' s s' p q = p ∙ sym q

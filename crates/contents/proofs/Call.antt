@@ -5,7 +5,7 @@ use mathlib.Core.Logic.{◌↔◌}
 use Prim.Native.Nat.{ℕ}
 use Rattle.card.specs.Says.{CardSays}
 use Rattle.card.proofs.Says.{card_says}
-use Rattle.contents.proofs.rules.card_number.Reads as card-number-reads
+use Rattle.contents.proofs.rules.card_number.Reads as card_number_reads
 
-pub card_number_means : (κs : _) (a : _) (r : ℕ) (s : _) → card-number-reads.Post κs a r s → (n : ℕ) → (r ≡ n) ↔ CardSays a.0.now n
+pub card_number_means : (κs : _) (a : _) (r : ℕ) (s : _) → card_number_reads.Post κs a r s → (n : ℕ) → (r ≡ n) ↔ CardSays a.0.now n
 card_number_means κs a r s post n = rw post (card_says a.0.now n)

@@ -3,7 +3,7 @@
 --   During s n k          the moment k/n lies strictly within the stay s
 --   up_during, down_during    an axis that runs up, down: the moments of its stay are those at which it is strictly between the lines
 --   past_during, before_during    an axis that stands still, counted just past its place, just before it
---   stay-fits             the numbers of a stay are in bounds
+--   stay_fits             the numbers of a stay are in bounds
 --   overlaps_means        two stays overlap exactly where some point, strictly between the ends, lies within both
 use mathlib.Core.Path.{◌≡◌, ap}
 use mathlib.Core.Logic.{◌↔◌, ◌⊎◌, inl, inr}

@@ -57,7 +57,7 @@ use Rattle.names.proofs.NameWords.{set_bits_mean, set_bits_rise, names_are, name
 use Rattle.names.proofs.NameFields.{tile_named, direction_named}
 use Rattle.lines.proofs.Differ.{never_differs}
 use Rattle.lines.proofs.PairLines.{line_some, refused}
-use Rattle.lines.proofs.list.Reads as list-reads
+use Rattle.lines.proofs.list.Reads as list_reads
 
 -- a bit that is below 9 and set, by what a set bit says
 nine_mean : (s : ℕ) (Says : ℕ → Type 0) → ((t : ℕ) → t < 9 → (bit s t ≡ 1) ↔ Says t) → (t : ℕ) → Among t (set_bits s 9) ↔ ((t < 9) × Says t)
@@ -73,7 +73,7 @@ module _ (card : List ℕ) where
   pub list_refused : (GoodCard card → ⊥) → (listing card ≡ refused_word ++ (decimal (card_number card) ++ (line_feed ∷ []))) × CardsOwn (card_number card)
   list_refused bad = (refused card (λ z. bad ((good_means card).0 z)), (not_good_means card).1 bad)
 
-pub list_left : (κs : _) (a : _) (r : ℕ) (s : _) → list-reads.Post κs a r s → take r s.1.0.now ≡ listing a.0.now
+pub list_left : (κs : _) (a : _) (r : ℕ) (s : _) → list_reads.Post κs a r s → take r s.1.0.now ≡ listing a.0.now
 list_left κs a r s post = let l = listing a.0.now in (λ i. take (post.0 i) (post.1 i)) ∙ take-append_seam l (drop (length l) a.1.0.now)
 
 -- ---- a number is not empty

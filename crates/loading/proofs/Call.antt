@@ -18,9 +18,9 @@ use Rattle.card.proofs.Says.{card_says}
 use Rattle.loading.specs.Load.{load_number, load}
 use Rattle.loading.specs.Says.{LoadSays, load_done, load_lists, load_card}
 use Rattle.loading.proofs.Says.{load_says}
-use Rattle.loading.proofs.load.Reads as load-reads
+use Rattle.loading.proofs.load.Reads as load_reads
 
-module _ (κs : _) (a : _) (n : ℕ) (e : _) (post : load-reads.Post κs a n e) where
+module _ (κs : _) (a : _) (n : ℕ) (e : _) (post : load_reads.Post κs a n e) where
   abbrev load_before : Sheet
   load_before = sheet_of a.0.now a.1.0.now a.1.1.0.now
 

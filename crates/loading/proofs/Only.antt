@@ -3,8 +3,8 @@
 use mathlib.Core.Path.{◌≡◌, sym, ◌∙◌}
 use Prim.Native.Nat.{ℕ}
 use Rattle.layout.specs.Sheet.{sheet_of}
-use Rattle.loading.proofs.load.Reads as load-reads
+use Rattle.loading.proofs.load.Reads as load_reads
 
-pub load_only : (κs : _) (a : _) (r r' : ℕ) (s s' : _) → load-reads.Post κs a r s → load-reads.Post κs a r' s'
+pub load_only : (κs : _) (a : _) (r r' : ℕ) (s s' : _) → load_reads.Post κs a r s → load_reads.Post κs a r' s'
     → (r ≡ r') × (sheet_of s.0.now s.1.0.now s.1.1.0.now ≡ sheet_of s'.0.now s'.1.0.now s'.1.1.0.now)
 load_only κs a r r' s s' p q = (p.0 ∙ sym q.0, p.1 ∙ sym q.1)

@@ -1,6 +1,6 @@
 -- In which order a map draws the parcels of a good card.
 --   drawn_slot        what is drawn k-th is the parcel of entry k, under its slot
---   north-up          what lies farther north stands higher, or as high where both fall on one tenth of a pixel
+--   north_up          what lies farther north stands higher, or as high where both fall on one tenth of a pixel
 --   drawn_rising      slots rise from one to the next, so each parcel is drawn once, and none twice
 use mathlib.Core.Path.{◌≡◌}
 use mathlib.Core.List.{List}

@@ -29,12 +29,12 @@ use Rattle.calls.specs.Says.{Readable, ReadSays, read_done, read_lists, read_slo
 use Rattle.calls.proofs.Readings.{read_means, cell_answered, number_answered, row_full, row_cells, row_empty}
 use Rattle.calls.proofs.Says.{read_says}
 use Rattle.calls.proofs.Several as laws
-use Rattle.reading.proofs.read_cell.Reads as read-reads
+use Rattle.reading.proofs.read_cell.Reads as read_reads
 use Rattle.reading.proofs.row.Reads as row_reads
-use Rattle.reading.proofs.several.read_cells.Reads as several-reads
+use Rattle.reading.proofs.several.read_cells.Reads as several_reads
 
 -- ---- a reading
-module _ (κs : _) (a : _) (r : Reading) (e : _) (post : read-reads.Post κs a r e) where
+module _ (κs : _) (a : _) (r : Reading) (e : _) (post : read_reads.Post κs a r e) where
   abbrev read_records : List ℕ
   read_records = a.0.now
 
@@ -89,13 +89,13 @@ module _ (κs : _) (a : _) (r : _) (e : _) (post : row_reads.Post κs a r e) whe
 
 -- ---- a list of pairs
 pub data Answered (records relations : List ℕ) (i j : ℕ) : Reading → Type 0 where
-  answered : (κs : _) (a : _) (r : Reading) (e : _) → read-reads.Post κs a r e → a.0.now ≡ records → a.1.0.now ≡ relations → a.1.1.0 ≡ i → a.1.1.1.0 ≡ j
+  answered : (κs : _) (a : _) (r : Reading) (e : _) → read_reads.Post κs a r e → a.0.now ≡ records → a.1.0.now ≡ relations → a.1.1.0 ≡ i → a.1.1.1.0 ≡ j
       → Answered records relations i j r
 
 answered_is : {records relations : List ℕ} {i j : ℕ} {r : Reading} → Answered records relations i j r → r ≡ reading_of records relations i j
 answered_is (answered κs a r e post er el ei ej) = rw (← er, ← el, ← ei, ← ej) post.0
 
-module _ (κs : _) (a : _) (n : ℕ) (e : _) (post : several-reads.Post κs a n e) where
+module _ (κs : _) (a : _) (n : ℕ) (e : _) (post : several_reads.Post κs a n e) where
   abbrev list_records : List ℕ
   list_records = a.0.now
 

@@ -14,7 +14,7 @@ use native.Mathlib.Omega.{arith}
 use native.Mathlib.Decide.{ℕ_discrete}
 use borrow.Author.Count.{below_none, below_more}
 use Rattle.plane.proofs.Logic.{never}
-use Rattle.region.specs.Refusals.{Refusal, number, number_if, or_else, first_number, ring_count, ring_length, list_size, coordinate_range, vertex_repeated, edges_meet, not_clockwise, slot_number, slot_empty, buffer_short, sheet_lists, sheet_damaged, withheld, card_header, card_parcels_lem, card_vertices_lem, not_two_parcels, pairs_odd}
+use Rattle.region.specs.Refusals.{Refusal, number, number_if, or_else, first_number, ring_count, ring_length, list_size, coordinate_range, vertex_repeated, edges_meet, not_clockwise, slot_number, slot_empty, buffer_short, sheet_lists, sheet_damaged, withheld, card_header, card_parcels, card_vertices, not_two_parcels, pairs_odd}
 
 pub or_else_first : (a b : ℕ) → a ≢ 0 → or_else a b ≡ a
 or_else_first zero b h = absurd (h refl)
@@ -42,8 +42,8 @@ number_some buffer_short e = omega arith
 number_some sheet_lists e = omega arith
 number_some sheet_damaged e = omega arith
 number_some card_header e = omega arith
-number_some card_parcels_lem e = omega arith
-number_some card_vertices_lem e = omega arith
+number_some card_parcels e = omega arith
+number_some card_vertices e = omega arith
 number_some not_two_parcels e = omega arith
 number_some pairs_odd e = omega arith
 
@@ -61,8 +61,8 @@ number_not_withheld buffer_short e = omega arith
 number_not_withheld sheet_lists e = omega arith
 number_not_withheld sheet_damaged e = omega arith
 number_not_withheld card_header e = omega arith
-number_not_withheld card_parcels_lem e = omega arith
-number_not_withheld card_vertices_lem e = omega arith
+number_not_withheld card_parcels e = omega arith
+number_not_withheld card_vertices e = omega arith
 number_not_withheld not_two_parcels e = omega arith
 number_not_withheld pairs_odd e = omega arith
 

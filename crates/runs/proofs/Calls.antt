@@ -1,6 +1,6 @@
 -- Condition 3 is about the code: a run of calls, each by its own contract.
 --   called_after, called_number    a call leaves `after_call`, and answers `call_number`, of the sheet that it found
---   ran_after, ran_layout, ran_fresh    so a run of the code leaves `afterRun`: the layout of what stands, number for number a fresh sheet into which
+--   ran_after, ran_layout, ran_fresh    so a run of the code leaves `after_run`: the layout of what stands, number for number a fresh sheet into which
 --                                  that is put once each
 --   ran_lists, ran_undamaged       the lists have their lengths, and the sheet is undamaged: no call of the run answers 11 or 12
 --   ran_parcel                     what is read from a slot of the lists is what stands there

@@ -34,10 +34,10 @@ use Rattle.calls.specs.Readings.{reading_number, reading_value, tile_count}
 use Rattle.calls.specs.Several.{pair_count, primary_of, reference_of}
 use Rattle.calls.specs.Says.{Readable, ReadSays, read_done, read_lists, read_slot, read_empty, SeveralSays, several_done, several_lists, several_odd, several_short}
 use Rattle.reading.proofs.Call as call
-use Rattle.reading.proofs.read_cell.Reads as read-reads
+use Rattle.reading.proofs.read_cell.Reads as read_reads
 use Rattle.reading.proofs.row.Reads as row_reads
-use Rattle.reading.proofs.tiles.Reads as tiles-reads
-use Rattle.reading.proofs.several.read_cells.Reads as several-reads
+use Rattle.reading.proofs.tiles.Reads as tiles_reads
+use Rattle.reading.proofs.several.read_cells.Reads as several_reads
 use Rattle.runs.specs.Runs.{Call, after_run, Stands, standing}
 use Rattle.runs.specs.Code.{Ran}
 use Rattle.runs.proofs.Runs.{standing_together, standing_means, stands_slot}
@@ -73,7 +73,7 @@ module _ {cs : List Call} {s : Sheet} (ran : Ran cs s) where
   cell_after p q = ap (λ (t : Sheet). cell_in t.relations p q) (ran_after ran)
 
   -- ---- a cell
-  module _ (κs : _) (a : _) (r : Reading) (e : _) (post : read-reads.Post κs a r e) (lent : (a.0.now ≡ s.records) × (a.1.0.now ≡ s.relations)) where
+  module _ (κs : _) (a : _) (r : Reading) (e : _) (post : read_reads.Post κs a r e) (lent : (a.0.now ≡ s.records) × (a.1.0.now ≡ s.relations)) where
     abbrev p : ℕ
     p = a.1.1.0
 
@@ -115,7 +115,7 @@ module _ {cs : List Call} {s : Sheet} (ran : Ran cs s) where
       pub reading_self_read : p ≡ q → (reading_number r ≡ 0) × (reading_value r ≡ 0)
       reading_self_read same = (ap reading_number (reading_self same), ap reading_value (reading_self same))
 
-      pub tiles_self : p ≡ q → (κt : _) (b : _) (n : ℕ) (f : _) → tiles-reads.Post κt b n f → b.0 ≡ reading_value r → n ≡ 0
+      pub tiles_self : p ≡ q → (κt : _) (b : _) (n : ℕ) (f : _) → tiles_reads.Post κt b n f → b.0 ≡ reading_value r → n ≡ 0
       unfolding tile_count sum_to
       tiles_self same κt b n f counted of-it = counted ∙ ap tile_count (of-it ∙ (reading_self_read same).1)
 
@@ -152,7 +152,7 @@ module _ {cs : List Call} {s : Sheet} (ran : Ran cs s) where
       row_tile k Q second other M is t l = rw (row_is.1 k (stands_slot second)) (standing_tile cs slot k R first Q second other M is t l)
 
   -- ---- a list of pairs
-  module _ (κs : _) (a : _) (n : ℕ) (e : _) (post : several-reads.Post κs a n e) (lent : (a.0.now ≡ s.records) × (a.1.0.now ≡ s.relations)) where
+  module _ (κs : _) (a : _) (n : ℕ) (e : _) (post : several_reads.Post κs a n e) (lent : (a.0.now ≡ s.records) × (a.1.0.now ≡ s.relations)) where
     abbrev pairs : List ℕ
     pairs = a.1.1.0.now
 

@@ -24,8 +24,8 @@ use Rattle.loading.specs.Says.{load_done}
 use Rattle.loading.proofs.Loads.{loads_exactly}
 use Rattle.loading.proofs.Call.{load_means, load_laid}
 use Rattle.writing.proofs.Call.{write_bytes}
-use Rattle.loading.proofs.load.Reads as load-reads
-use Rattle.writing.proofs.write.Reads as write-reads
+use Rattle.loading.proofs.load.Reads as load_reads
+use Rattle.writing.proofs.write.Reads as write_reads
 use Rattle.runs.specs.Runs.{Call, standing}
 use Rattle.runs.specs.Code.{Ran}
 use Rattle.runs.proofs.RoundTrip.{written_parcel, written_good}
@@ -33,8 +33,8 @@ use Rattle.runs.proofs.Runs.{standing_together}
 use Rattle.runs.proofs.Calls.{ran_layout, ran_parcel}
 use Rattle.runs.proofs.Cards.{load_then_write}
 
-module _ (κw : _) (aw : _) (r : Written) (ew : _) (wrote : write-reads.Post κw aw r ew) (done : r.number ≡ 0)
-    (κl : _) (al : _) (n : ℕ) (el : _) (loaded : load-reads.Post κl al n el) where
+module _ (κw : _) (aw : _) (r : Written) (ew : _) (wrote : write_reads.Post κw aw r ew) (done : r.number ≡ 0)
+    (κl : _) (al : _) (n : ℕ) (el : _) (loaded : load_reads.Post κl al n el) where
   abbrev sheet_written : Sheet
   sheet_written = sheet_of aw.0.now aw.1.0.now aw.1.1.0.now
 

@@ -8,19 +8,19 @@ use Rattle.region.specs.Region.{region_of}
 use Rattle.layout.specs.Sheet.{Sheet, sheet_of}
 use Rattle.layout.specs.Layout.{blank}
 use Rattle.sheet.proofs.put.Reads as put_reads
-use Rattle.sheet.proofs.remove.Reads as remove-reads
+use Rattle.sheet.proofs.remove.Reads as remove_reads
 use Rattle.sheet.proofs.clear.Reads as clear_reads
-use Rattle.loading.proofs.load.Reads as load-reads
+use Rattle.loading.proofs.load.Reads as load_reads
 use Rattle.runs.specs.Runs.{Call, put, remove, clear, load}
 
 pub data Called : Call → Sheet → ℕ → Sheet → Type 0 where
   put_called : (κs : _) (a : _) (n : ℕ) (e : _) → put_reads.Post κs a n e
       → Called (put a.1.1.1.0 (region_of a.1.1.1.1.0.now a.1.1.1.1.1.0.now)) (sheet_of a.0.now a.1.0.now a.1.1.0.now) n (sheet_of e.0.now e.1.0.now e.1.1.0.now)
-  remove_called : (κs : _) (a : _) (n : ℕ) (e : _) → remove-reads.Post κs a n e
+  remove_called : (κs : _) (a : _) (n : ℕ) (e : _) → remove_reads.Post κs a n e
       → Called (remove a.1.1.1.0) (sheet_of a.0.now a.1.0.now a.1.1.0.now) n (sheet_of e.0.now e.1.0.now e.1.1.0.now)
   clear_called : (κs : _) (a : _) (n : ℕ) (e : _) → clear_reads.Post κs a n e
       → Called clear (sheet_of a.0.now a.1.0.now a.1.1.0.now) n (sheet_of e.0.now e.1.0.now e.1.1.0.now)
-  load_called : (κs : _) (a : _) (n : ℕ) (e : _) → load-reads.Post κs a n e
+  load_called : (κs : _) (a : _) (n : ℕ) (e : _) → load_reads.Post κs a n e
       → Called (load a.1.1.1.0.now) (sheet_of a.0.now a.1.0.now a.1.1.0.now) n (sheet_of e.0.now e.1.0.now e.1.1.0.now)
 
 pub data Ran : List Call → Sheet → Type 0 where

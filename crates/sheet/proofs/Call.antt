@@ -35,7 +35,7 @@ use Rattle.calls.proofs.Numbers.{put_ready, put_is, remove_ready}
 use Rattle.calls.proofs.Frame.{put_touches, remove_touches}
 use Rattle.calls.proofs.Says.{unchangeable_either, put_says, remove_says, clear_says}
 use Rattle.sheet.proofs.put.Reads as put_reads
-use Rattle.sheet.proofs.remove.Reads as remove-reads
+use Rattle.sheet.proofs.remove.Reads as remove_reads
 use Rattle.sheet.proofs.clear.Reads as clear_reads
 
 -- ---- a put
@@ -103,7 +103,7 @@ module _ (κs : _) (a : _) (n : ℕ) (e : _) (post : put_reads.Post κs a n e) w
         put_column L is t l = rw (put_cell k put_slot) (column_tile put_before put_slot put_region put_may.change.slot_in k h other put_may Q there L is t l)
 
 -- ---- a removal
-module _ (κs : _) (a : _) (n : ℕ) (e : _) (post : remove-reads.Post κs a n e) where
+module _ (κs : _) (a : _) (n : ℕ) (e : _) (post : remove_reads.Post κs a n e) where
   abbrev remove_before : Sheet
   remove_before = sheet_of a.0.now a.1.0.now a.1.1.0.now
 

@@ -4,7 +4,7 @@ use mathlib.Core.Path.{◌≡◌, sym, ◌∙◌}
 use Prim.Native.Nat.{ℕ}
 use Rattle.layout.specs.Sheet.{sheet_of}
 use Rattle.sheet.proofs.put.Reads as put_reads
-use Rattle.sheet.proofs.remove.Reads as remove-reads
+use Rattle.sheet.proofs.remove.Reads as remove_reads
 use Rattle.sheet.proofs.clear.Reads as clear_reads
 
 same : {A B : Type 0} {a a' c : A} {b b' d : B} → (a ≡ c) × (b ≡ d) → (a' ≡ c) × (b' ≡ d) → (a ≡ a') × (b ≡ b')
@@ -14,7 +14,7 @@ pub put_only : (κs : _) (a : _) (r r' : ℕ) (s s' : _) → put_reads.Post κs 
     → (r ≡ r') × (sheet_of s.0.now s.1.0.now s.1.1.0.now ≡ sheet_of s'.0.now s'.1.0.now s'.1.1.0.now)
 put_only κs a r r' s s' p q = same p q
 
-pub remove_only : (κs : _) (a : _) (r r' : ℕ) (s s' : _) → remove-reads.Post κs a r s → remove-reads.Post κs a r' s'
+pub remove_only : (κs : _) (a : _) (r r' : ℕ) (s s' : _) → remove_reads.Post κs a r s → remove_reads.Post κs a r' s'
     → (r ≡ r') × (sheet_of s.0.now s.1.0.now s.1.1.0.now ≡ sheet_of s'.0.now s'.1.0.now s'.1.1.0.now)
 remove_only κs a r r' s s' p q = same p q
 

@@ -7,43 +7,43 @@ use mathlib.Core.Path.{◌≡◌, sym, ◌∙◌}
 use mathlib.Core.Bool.{Bool}
 use Prim.Native.Nat.{ℕ}
 use Rattle.layout.specs.Sheet.{sheet_of}
-use Rattle.storage.proofs.lists.wrong_tables.Reads as wrong-tables-reads
-use Rattle.storage.proofs.lists.wrong_lists.Reads as wrong-lists-reads
+use Rattle.storage.proofs.lists.wrong_tables.Reads as wrong_tables_reads
+use Rattle.storage.proofs.lists.wrong_lists.Reads as wrong_lists_reads
 use Rattle.storage.proofs.lists.clear_lists.Reads as clear_reads
-use Rattle.storage.proofs.slots.ring_count.Reads as ring-count-reads
-use Rattle.storage.proofs.slots.is_empty.Reads as is-empty-reads
-use Rattle.storage.proofs.slots.ends_at.Reads as ends-reads
-use Rattle.storage.proofs.slots.outline_at.Reads as outline-reads
-use Rattle.storage.proofs.refused.whole_number.Reads as whole-number-reads
-use Rattle.storage.proofs.refused.change_number.Reads as change-number-reads
-use Rattle.storage.proofs.table.cell_in.Reads as cell-reads
+use Rattle.storage.proofs.slots.ring_count.Reads as ring_count_reads
+use Rattle.storage.proofs.slots.is_empty.Reads as is_empty_reads
+use Rattle.storage.proofs.slots.ends_at.Reads as ends_reads
+use Rattle.storage.proofs.slots.outline_at.Reads as outline_reads
+use Rattle.storage.proofs.refused.whole_number.Reads as whole_number_reads
+use Rattle.storage.proofs.refused.change_number.Reads as change_number_reads
+use Rattle.storage.proofs.table.cell_in.Reads as cell_reads
 use Rattle.storage.proofs.table.row_in.Reads as row_reads
 
-pub wrong_tables_only : (κs : _) (a : _) (r r' : Bool) (s s' : _) → wrong-tables-reads.Post κs a r s → wrong-tables-reads.Post κs a r' s' → r ≡ r'
+pub wrong_tables_only : (κs : _) (a : _) (r r' : Bool) (s s' : _) → wrong_tables_reads.Post κs a r s → wrong_tables_reads.Post κs a r' s' → r ≡ r'
 wrong_tables_only κs a r r' s s' p q = p ∙ sym q
 
-pub wrong_lists_only : (κs : _) (a : _) (r r' : Bool) (s s' : _) → wrong-lists-reads.Post κs a r s → wrong-lists-reads.Post κs a r' s' → r ≡ r'
+pub wrong_lists_only : (κs : _) (a : _) (r r' : Bool) (s s' : _) → wrong_lists_reads.Post κs a r s → wrong_lists_reads.Post κs a r' s' → r ≡ r'
 wrong_lists_only κs a r r' s s' p q = p ∙ sym q
 
-pub ring_count_only : (κs : _) (a : _) (r r' : ℕ) (s s' : _) → ring-count-reads.Post κs a r s → ring-count-reads.Post κs a r' s' → r ≡ r'
+pub ring_count_only : (κs : _) (a : _) (r r' : ℕ) (s s' : _) → ring_count_reads.Post κs a r s → ring_count_reads.Post κs a r' s' → r ≡ r'
 ring_count_only κs a r r' s s' p q = p ∙ sym q
 
-pub is_empty_only : (κs : _) (a : _) (r r' : Bool) (s s' : _) → is-empty-reads.Post κs a r s → is-empty-reads.Post κs a r' s' → r ≡ r'
+pub is_empty_only : (κs : _) (a : _) (r r' : Bool) (s s' : _) → is_empty_reads.Post κs a r s → is_empty_reads.Post κs a r' s' → r ≡ r'
 is_empty_only κs a r r' s s' p q = p ∙ sym q
 
-pub whole_number_only : (κs : _) (a : _) (r r' : ℕ) (s s' : _) → whole-number-reads.Post κs a r s → whole-number-reads.Post κs a r' s' → r ≡ r'
+pub whole_number_only : (κs : _) (a : _) (r r' : ℕ) (s s' : _) → whole_number_reads.Post κs a r s → whole_number_reads.Post κs a r' s' → r ≡ r'
 whole_number_only κs a r r' s s' p q = p ∙ sym q
 
-pub change_number_only : (κs : _) (a : _) (r r' : ℕ) (s s' : _) → change-number-reads.Post κs a r s → change-number-reads.Post κs a r' s' → r ≡ r'
+pub change_number_only : (κs : _) (a : _) (r r' : ℕ) (s s' : _) → change_number_reads.Post κs a r s → change_number_reads.Post κs a r' s' → r ≡ r'
 change_number_only κs a r r' s s' p q = p ∙ sym q
 
-pub cell_only : (κs : _) (a : _) (r r' : ℕ) (s s' : _) → cell-reads.Post κs a r s → cell-reads.Post κs a r' s' → r ≡ r'
+pub cell_only : (κs : _) (a : _) (r r' : ℕ) (s s' : _) → cell_reads.Post κs a r s → cell_reads.Post κs a r' s' → r ≡ r'
 cell_only κs a r r' s s' p q = p ∙ sym q
 
-pub ends_only : (κs : _) (a : _) (r r' : _) (s s' : _) → ends-reads.Post κs a r s → ends-reads.Post κs a r' s' → r.now ≡ r'.now
+pub ends_only : (κs : _) (a : _) (r r' : _) (s s' : _) → ends_reads.Post κs a r s → ends_reads.Post κs a r' s' → r.now ≡ r'.now
 ends_only κs a r r' s s' p q = p ∙ sym q
 
-pub outline_only : (κs : _) (a : _) (r r' : _) (s s' : _) → outline-reads.Post κs a r s → outline-reads.Post κs a r' s' → r.now ≡ r'.now
+pub outline_only : (κs : _) (a : _) (r r' : _) (s s' : _) → outline_reads.Post κs a r s → outline_reads.Post κs a r' s' → r.now ≡ r'.now
 outline_only κs a r r' s s' p q = p ∙ sym q
 
 pub row_only : (κs : _) (a : _) (r r' : _) (s s' : _) → row_reads.Post κs a r s → row_reads.Post κs a r' s' → (r.now ≡ r'.now) × (r.ref_ptr ≡ r'.ref_ptr)

@@ -11,11 +11,11 @@ use native.Mathlib.Nat.{pow-le-pow_right, zero-lt-suc}
 use lib.IntN.{ℤ, pos, negsuc}
 use Rattle.io.specs.Digits.{last_digits, IsDigitCount}
 use Rattle.words.specs.Texts.{Wrote, WroteNatural, WroteNegative, WroteInteger}
-use Rattle.words.proofs.write.put_text.Reads as put-text-reads
-use Rattle.words.proofs.write.put_byte.Reads as put-byte-reads
-use Rattle.words.proofs.write.put_hex.Reads as put-hex-reads
-use Rattle.words.proofs.write.put_natural.Reads as put-natural-reads
-use Rattle.words.proofs.write.put_integer.Reads as put-integer-reads
+use Rattle.words.proofs.write.put_text.Reads as put_text_reads
+use Rattle.words.proofs.write.put_byte.Reads as put_byte_reads
+use Rattle.words.proofs.write.put_hex.Reads as put_hex_reads
+use Rattle.words.proofs.write.put_natural.Reads as put_natural_reads
+use Rattle.words.proofs.write.put_integer.Reads as put_integer_reads
 
 -- more digits than the fewest are not the fewest
 not_fewer : (n k m : ℕ) → IsDigitCount 10 1 n k → IsDigitCount 10 1 n m → k < m → ⊥
@@ -49,17 +49,17 @@ pub wrote_integer_only : (xs : List ℕ) (at : ℕ) (z : ℤ) {r r' : ℕ} {ys y
 wrote_integer_only xs at (pos n) w v = wrote_natural_only w v
 wrote_integer_only xs at (negsuc n) w v = wrote_negative_only w v
 
-pub put_text_only : (κs : _) (a : _) (r r' : ℕ) (s s' : _) → put-text-reads.Post κs a r s → put-text-reads.Post κs a r' s' → (r ≡ r') × (s.0.now ≡ s'.0.now)
+pub put_text_only : (κs : _) (a : _) (r r' : ℕ) (s s' : _) → put_text_reads.Post κs a r s → put_text_reads.Post κs a r' s' → (r ≡ r') × (s.0.now ≡ s'.0.now)
 put_text_only κs a r r' s s' p q = wrote_only p q
 
-pub put_byte_only : (κs : _) (a : _) (r r' : ℕ) (s s' : _) → put-byte-reads.Post κs a r s → put-byte-reads.Post κs a r' s' → (r ≡ r') × (s.0.now ≡ s'.0.now)
+pub put_byte_only : (κs : _) (a : _) (r r' : ℕ) (s s' : _) → put_byte_reads.Post κs a r s → put_byte_reads.Post κs a r' s' → (r ≡ r') × (s.0.now ≡ s'.0.now)
 put_byte_only κs a r r' s s' p q = wrote_only p q
 
-pub put_hex_only : (κs : _) (a : _) (r r' : ℕ) (s s' : _) → put-hex-reads.Post κs a r s → put-hex-reads.Post κs a r' s' → (r ≡ r') × (s.0.now ≡ s'.0.now)
+pub put_hex_only : (κs : _) (a : _) (r r' : ℕ) (s s' : _) → put_hex_reads.Post κs a r s → put_hex_reads.Post κs a r' s' → (r ≡ r') × (s.0.now ≡ s'.0.now)
 put_hex_only κs a r r' s s' p q = wrote_only p q
 
-pub put_natural_only : (κs : _) (a : _) (r r' : ℕ) (s s' : _) → put-natural-reads.Post κs a r s → put-natural-reads.Post κs a r' s' → (r ≡ r') × (s.0.now ≡ s'.0.now)
+pub put_natural_only : (κs : _) (a : _) (r r' : ℕ) (s s' : _) → put_natural_reads.Post κs a r s → put_natural_reads.Post κs a r' s' → (r ≡ r') × (s.0.now ≡ s'.0.now)
 put_natural_only κs a r r' s s' p q = wrote_natural_only p q
 
-pub put_integer_only : (κs : _) (a : _) (r r' : ℕ) (s s' : _) → put-integer-reads.Post κs a r s → put-integer-reads.Post κs a r' s' → (r ≡ r') × (s.0.now ≡ s'.0.now)
+pub put_integer_only : (κs : _) (a : _) (r r' : ℕ) (s s' : _) → put_integer_reads.Post κs a r s → put_integer_reads.Post κs a r' s' → (r ≡ r') × (s.0.now ≡ s'.0.now)
 put_integer_only κs a r r' s s' p q = wrote_integer_only a.0.now a.1.0 a.1.1.0 p q

@@ -17,7 +17,7 @@ use Rattle.writing.specs.declared.Written.{Written}
 use Rattle.writing.specs.Write.{card_of, write_number, written, write}
 use Rattle.writing.specs.Says.{WriteSays, write_done, write_lists, write_damage, write_short}
 use Rattle.writing.proofs.Says.{write_says}
-use Rattle.writing.proofs.write.Reads as write-reads
+use Rattle.writing.proofs.write.Reads as write_reads
 
 -- what stands behind the list that was written
 behind : (l m : List ℕ) (j : ℕ) → length l ≤ j → get_or (l ++ drop (length l) m) j 0 ≡ get_or m j 0
@@ -26,7 +26,7 @@ behind l m j past =
     ap (λ (k : ℕ). get_or (l ++ drop (length l) m) k 0) (sym q) ∙ get_or-append-add l (drop (length l) m) (j - length l) 0 ∙ get_or-drop (length l) m (j - length l) 0
     ∙ ap (λ (k : ℕ). get_or m k 0) q
 
-module _ (κs : _) (a : _) (r : Written) (e : _) (post : write-reads.Post κs a r e) where
+module _ (κs : _) (a : _) (r : Written) (e : _) (post : write_reads.Post κs a r e) where
   abbrev write_sheet : Sheet
   write_sheet = sheet_of a.0.now a.1.0.now a.1.1.0.now
 

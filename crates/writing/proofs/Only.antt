@@ -2,8 +2,8 @@
 --   write_only         number and length, and the buffer
 use mathlib.Core.Path.{◌≡◌, sym, ◌∙◌}
 use Rattle.writing.specs.declared.Written.{Written}
-use Rattle.writing.proofs.write.Reads as write-reads
+use Rattle.writing.proofs.write.Reads as write_reads
 
-pub write_only : (κs : _) (a : _) (r r' : Written) (s s' : _) → write-reads.Post κs a r s → write-reads.Post κs a r' s'
+pub write_only : (κs : _) (a : _) (r r' : Written) (s s' : _) → write_reads.Post κs a r s → write_reads.Post κs a r' s'
     → (r ≡ r') × (s.1.1.1.0.now ≡ s'.1.1.1.0.now)
 write_only κs a r r' s s' p q = (p.0 ∙ sym q.0, p.1 ∙ sym q.1)

@@ -1,6 +1,6 @@
 -- The parts of a card, by the lists of an undamaged sheet.
 --   countable     its ring ends may be counted
---   totals_are    the totals are those of what stands;  totals-le  and within a header's limits
+--   totals_are    the totals are those of what stands;  totals_le  and within a header's limits
 --   entries_are, ends_are, vertices_are     the bytes of the three parts are those of what stands
 use mathlib.Core.Path.{◌≡◌, sym, ◌∙◌, ap}
 use mathlib.Core.Bool.{not}

@@ -11,8 +11,8 @@ use Rattle.card.proofs.Good.{good_means}
 use Rattle.carried.specs.Pairs.{drawn_in}
 use Rattle.carried.proofs.drawn_in.Goals as goal
 
-abbrev answerFor : (first second : Region) → DrawnMatrix
-answerFor first second = drawn_for (region_box first) (region_box second) first second
+abbrev answer_for : (first second : Region) → DrawnMatrix
+answer_for first second = drawn_for (region_box first) (region_box second) first second
 
 pub matrix_drawn-requires : goal.matrix_drawn-requires
 matrix_drawn-requires c =
@@ -30,5 +30,5 @@ returns c =
     let two = c.read_parcel-two.ensures in
     let one = c.read_parcel-one.ensures in
     c.matrix_drawn.ensures
-    ∙ (λ i. answerFor (region_of (one.numbers_are i) (one.ends_are i)) (region_of (two.numbers_are i) (two.ends_are i)))
+    ∙ (λ i. answer_for (region_of (one.numbers_are i) (one.ends_are i)) (region_of (two.numbers_are i) (two.ends_are i)))
     ∙ accepted_drawn _ _ ((accepted_means _).1 (kept.parcels_keep c.args.j c.requires.1)) ((accepted_means _).1 (kept.parcels_keep c.args.k c.requires.2))

@@ -13,8 +13,8 @@ use Rattle.circuit.proofs.ring_encloses.Goals as goal
 use Rattle.circuit.proofs.ring_encloses.Invariants.{crosses, count}
 use Rattle.circuit.proofs.ring_encloses.Goals.{then-crosses_ray, else-crosses_ray}
 
-count-more : (b : Box) (xs : List ℤ) (from n k : ℕ) (t : Bool) → t ≡ crosses b xs from n k → count b xs from n k + one_if t ≡ count b xs from n (k + 1)
-count-more b xs from n k t e = rw e (sum_step (λ i. one_if (crosses b xs from n i)) k)
+count_more : (b : Box) (xs : List ℤ) (from n k : ℕ) (t : Bool) → t ≡ crosses b xs from n k → count b xs from n k + one_if t ≡ count b xs from n (k + 1)
+count_more b xs from n k t e = rw e (sum_step (λ i. one_if (crosses b xs from n i)) k)
 
 pub loop-k-init : goal.loop-k-init
 loop-k-init c = (omega arith, omega arith, sum_none _)
@@ -32,7 +32,7 @@ loop-k-preserved c =
     let a = c.args in
     let l = c.loop-k in
     let t = c.crosses_ray.result in
-    let m = count-more a.b a.xs.now a.from a.n l.k t (c.crosses_ray.ensures ∙ ap (crosses_at 2 (a.b.west + a.b.east) (a.b.south + a.b.north)) c.ring_edge.ensures) in
+    let m = count_more a.b a.xs.now a.from a.n l.k t (c.crosses_ray.ensures ∙ ap (crosses_at 2 (a.b.west + a.b.east) (a.b.south + a.b.north)) c.ring_edge.ensures) in
     elim c.if-crosses_ray.branch [
       | then-crosses_ray w ↦ (omega arith, omega (arith, w.crossing-is), omega (arith, w.crossing-is, ap one_if w.if-crosses_ray.true))
       | else-crosses_ray w ↦ (omega arith, omega (arith, w.crossing-is), omega (arith, w.crossing-is, ap one_if w.if-crosses_ray.false))

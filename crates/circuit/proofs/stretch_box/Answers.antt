@@ -25,11 +25,11 @@ y_of-south-requires c = first_readable c.requires.0 c.requires.1
 
 -- ---- the coordinates that are read
 module _ {xs : List ℤ} {from n : ℕ} (s : Stretch xs from n) {k : ℕ} (h : k < n) where
-  x-placed : (x : ℤ) → x ≡ (corner xs from k).x → Placed x (x_of xs from k)
-  x-placed x e = rw e ((s.range.at k h).x, refl)
+  x_placed : (x : ℤ) → x ≡ (corner xs from k).x → Placed x (x_of xs from k)
+  x_placed x e = rw e ((s.range.at k h).x, refl)
 
-  y-placed : (y : ℤ) → y ≡ (corner xs from k).y → Placed y (y_of xs from k)
-  y-placed y e = rw e ((s.range.at k h).y, refl)
+  y_placed : (y : ℤ) → y ≡ (corner xs from k).y → Placed y (y_of xs from k)
+  y_placed y e = rw e ((s.range.at k h).y, refl)
 
 keep : (z : ℤ) (p : ℕ) → Placed z p → Placed (to_z w32 (of_z w32 z)) p
 keep z p h = rw (held z h.0) h
@@ -40,8 +40,8 @@ to z p q h e = keep z q (h.0, h.1 ∙ e)
 pub loop-k-init : goal.loop-k-init
 loop-k-init c =
     let a = c.args in
-    let x = x-placed c.requires.0 c.requires.1 _ (c.x_of-west.ensures ∙ ap (λ (i : ℕ). (vertex a.xs.now i).x) (sym (add-zero a.from))) in
-    let y = y-placed c.requires.0 c.requires.1 _ (c.y_of-south.ensures ∙ ap (λ (i : ℕ). (vertex a.xs.now i).y) (sym (add-zero a.from))) in (
+    let x = x_placed c.requires.0 c.requires.1 _ (c.x_of-west.ensures ∙ ap (λ (i : ℕ). (vertex a.xs.now i).x) (sym (add-zero a.from))) in
+    let y = y_placed c.requires.0 c.requires.1 _ (c.y_of-south.ensures ∙ ap (λ (i : ℕ). (vertex a.xs.now i).y) (sym (add-zero a.from))) in (
       omega arith,
       omega (arith, c.requires.1),
       to _ _ _ x (least_first (x_of a.xs.now a.from)),
@@ -74,10 +74,10 @@ module _ (c : After-y_of-y) where
   k = c.loop-k.k
 
   x : Placed (to_z w32 (of_z w32 c.x_of-x.result)) (x_of xs from k)
-  x = keep _ _ (x-placed c.requires.0 c.loop-k-test.true _ c.x_of-x.ensures)
+  x = keep _ _ (x_placed c.requires.0 c.loop-k-test.true _ c.x_of-x.ensures)
 
   y : Placed (to_z w32 (of_z w32 c.y_of-y.result)) (y_of xs from k)
-  y = keep _ _ (y-placed c.requires.0 c.loop-k-test.true _ c.y_of-y.ensures)
+  y = keep _ _ (y_placed c.requires.0 c.loop-k-test.true _ c.y_of-y.ensures)
 
 pub lower-west-requires : goal.lower-west-requires
 lower-west-requires c = (c.loop-k.invariant.2.0, (x (goal.at.lower-west-requires c).After-y_of-y).0)

@@ -48,14 +48,14 @@ module _ (c : After-coordinate_of-h) where
   abbrev hi : ℤ
   hi = c.coordinate_of-h.result
 
-  read-x : read x ≡ x
-  read-x = held x c.requires.0
+  read_x : read x ≡ x
+  read_x = held x c.requires.0
 
-  read-lo : read lo ≡ lo
-  read-lo = held lo c.coordinate_of-l.ensures.0
+  read_lo : read lo ≡ lo
+  read_lo = held lo c.coordinate_of-l.ensures.0
 
-  read-hi : read hi ≡ hi
-  read-hi = held hi c.coordinate_of-h.ensures.0
+  read_hi : read hi ≡ hi
+  read_hi = held hi c.coordinate_of-h.ensures.0
 
 pub overflow_add-result : goal.overflow_add-result
 overflow_add-result c =
@@ -77,5 +77,5 @@ returns c =
     let s = (goal.at.returns c).After-coordinate_of-h in
     let l = c.coordinate_of-l.ensures in
     let h = c.coordinate_of-h.ensures in
-    simp (read-x s, read-lo s, read-hi s)
+    simp (read_x s, read_lo s, read_hi s)
     (classed (x s) (lo s) (hi s) c.requires.0 l.0 h.0 ∙ ap₂ (class_of (place_of (x s))) l.1 h.1, omega (arith, bytes (x s) (lo s) (hi s)))

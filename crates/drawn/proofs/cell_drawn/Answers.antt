@@ -25,13 +25,13 @@ module _ (a b : Box) (first second : Marked) (i j : ℕ) where
   unfolding value_by
   within h k = simp (lt-ltb i (row_count a b) h, lt-ltb j (column_count a b) k)
 
-  past-rows : row_count a b ≤ i → 0 ≡ value_by a b first second i j
+  past_rows : row_count a b ≤ i → 0 ≡ value_by a b first second i j
   unfolding value_by
-  past-rows h = simp (le-ltb i (row_count a b) h)
+  past_rows h = simp (le-ltb i (row_count a b) h)
 
-  past-columns : column_count a b ≤ j → 0 ≡ value_by a b first second i j
+  past_columns : column_count a b ≤ j → 0 ≡ value_by a b first second i j
   unfolding value_by
-  past-columns h = go (ltb i (row_count a b)) (ltb j (column_count a b)) (le-ltb j (column_count a b) h)
+  past_columns h = go (ltb i (row_count a b)) (ltb j (column_count a b)) (le-ltb j (column_count a b) h)
     where
       go : (x y : Bool) → y ≡ false → 0 ≡ pick (x && y) (one_if (is_marked first cell b (3 * i + j)) + 2 * one_if (is_marked second cell a (3 * i + j))) 0
       go true y e = simp e
@@ -41,13 +41,13 @@ pub returns-then-g-i : goal.returns-then-g-i
 returns-then-g-i c =
     let a = c.args in
     let n = kept_size a.a a.b a.g c.requires.0 in
-    past-rows a.a a.b a.first a.second a.i a.j (omega (arith, c.if-g-i.true, n.rows_are))
+    past_rows a.a a.b a.first a.second a.i a.j (omega (arith, c.if-g-i.true, n.rows_are))
 
 pub returns-then-g-j : goal.returns-then-g-j
 returns-then-g-j c =
     let a = c.args in
     let n = kept_size a.a a.b a.g c.requires.0 in
-    past-columns a.a a.b a.first a.second a.i a.j (omega (arith, c.if-g-j.true, n.columns_are))
+    past_columns a.a a.b a.first a.second a.i a.j (omega (arith, c.if-g-j.true, n.columns_are))
 
 pub cell_at-cell-requires : goal.cell_at-cell-requires
 cell_at-cell-requires c =

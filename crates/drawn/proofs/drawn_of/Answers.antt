@@ -16,16 +16,16 @@ use Rattle.drawn.proofs.drawn_of.Goals.{In-Accepted, In-Accepted-two, Start}
 
 -- ---- the answer by the two checks
 module _ (first second : Region) where
-  first-refused : {c : Checked} {n r : ℕ} → c ≡ check_of first → c ≡ Refused n r → or_refused c 1 (refused_with 0 0 0) ≡ drawn_of first second
+  first_refused : {c : Checked} {n r : ℕ} → c ≡ check_of first → c ≡ Refused n r → or_refused c 1 (refused_with 0 0 0) ≡ drawn_of first second
   unfolding drawn_of
-  first-refused e f =
+  first_refused e f =
       ap (λ (k : Checked). or_refused k 1 (refused_with 0 0 0)) f
       ∙ sym (ap (λ (k : Checked). or_refused k 1 (or_refused (check_of second) 2 (drawn_for (region_box first) (region_box second) first second))) (sym e ∙ f))
 
   module _ (accepted : check_of first ≡ Accepted) where
-    second-refused : {c : Checked} {n r : ℕ} → c ≡ check_of second → c ≡ Refused n r → or_refused c 2 (refused_with 0 0 0) ≡ drawn_of first second
+    second_refused : {c : Checked} {n r : ℕ} → c ≡ check_of second → c ≡ Refused n r → or_refused c 2 (refused_with 0 0 0) ≡ drawn_of first second
     unfolding drawn_of
-    second-refused e f =
+    second_refused e f =
         ap (λ (k : Checked). or_refused k 2 (refused_with 0 0 0)) f
         ∙ sym (λ i. or_refused (accepted i) 1 (or_refused ((sym e ∙ f) i) 2 (drawn_for (region_box first) (region_box second) first second)))
 
@@ -39,26 +39,26 @@ one s = region_of s.args.first.now s.args.first_ends.now
 abbrev two : Start → Region
 two s = region_of s.args.second.now s.args.second_ends.now
 
-first-accepted : (c : In-Accepted) → check_of (region_of c.args.first.now c.args.first_ends.now) ≡ Accepted
-first-accepted c = sym c.check_region-one.ensures ∙ c.in-Accepted.is
+first_accepted : (c : In-Accepted) → check_of (region_of c.args.first.now c.args.first_ends.now) ≡ Accepted
+first_accepted c = sym c.check_region-one.ensures ∙ c.in-Accepted.is
 
-second-accepted : (c : In-Accepted-two) → check_of (two (goal.at.matrix_drawn-requires c).Start) ≡ Accepted
-second-accepted c = sym c.check_region-two.ensures ∙ c.in-Accepted-two.is
+second_accepted : (c : In-Accepted-two) → check_of (two (goal.at.matrix_drawn-requires c).Start) ≡ Accepted
+second_accepted c = sym c.check_region-two.ensures ∙ c.in-Accepted-two.is
 
 pub returns-in_default : goal.returns-in_default
 returns-in_default c =
     let start = (goal.at.returns-in_default c).Start in
-    c.refusal.ensures ∙ first-refused (one start) (two start) c.check_region-one.ensures c.in_default.is
+    c.refusal.ensures ∙ first_refused (one start) (two start) c.check_region-one.ensures c.in_default.is
 
 pub returns-in_default-two : goal.returns-in_default-two
 returns-in_default-two c =
     let start = (goal.at.returns-in_default-two c).Start in
-    c.refusal-in_default-two.ensures ∙ second-refused (one start) (two start) (first-accepted (goal.at.returns-in_default-two c).In-Accepted) c.check_region-two.ensures c.in_default-two.is
+    c.refusal-in_default-two.ensures ∙ second_refused (one start) (two start) (first_accepted (goal.at.returns-in_default-two c).In-Accepted) c.check_region-two.ensures c.in_default-two.is
 
 pub matrix_drawn-requires : goal.matrix_drawn-requires
-matrix_drawn-requires c = (four (first-accepted (goal.at.matrix_drawn-requires c).In-Accepted), four (second-accepted c))
+matrix_drawn-requires c = (four (first_accepted (goal.at.matrix_drawn-requires c).In-Accepted), four (second_accepted c))
 
 pub returns : goal.returns
 returns c =
     let start = (goal.at.returns c).Start in
-    c.matrix_drawn.ensures ∙ accepted_drawn (one start) (two start) (first-accepted (goal.at.returns c).In-Accepted) (second-accepted (goal.at.returns c).In-Accepted-two)
+    c.matrix_drawn.ensures ∙ accepted_drawn (one start) (two start) (first_accepted (goal.at.returns c).In-Accepted) (second_accepted (goal.at.returns c).In-Accepted-two)

@@ -15,13 +15,13 @@ module _ (m : Marked) (k b : Box) (c : ℕ) where
   unfolding is_marked
   by_edge p = rw p refl
 
-  by-none : eqb (bit m.cells c) 1 ≡ false → m.centre ≡ false → false ≡ is_marked m k b c
+  by_none : eqb (bit m.cells c) 1 ≡ false → m.centre ≡ false → false ≡ is_marked m k b c
   unfolding is_marked
-  by-none p q = rw (p, q) refl
+  by_none p q = rw (p, q) refl
 
-  by-centre : eqb (bit m.cells c) 1 ≡ false → m.centre ≡ true → same_box k b ≡ is_marked m k b c
+  by_centre : eqb (bit m.cells c) 1 ≡ false → m.centre ≡ true → same_box k b ≡ is_marked m k b c
   unfolding is_marked
-  by-centre p q = rw (p, q) refl
+  by_centre p q = rw (p, q) refl
 
 pub returns-then-m-k-eq1 : goal.returns-then-m-k-eq1
 returns-then-m-k-eq1 c =
@@ -31,9 +31,9 @@ returns-then-m-k-eq1 c =
 pub returns-then-not-m : goal.returns-then-not-m
 returns-then-not-m c =
     let a = c.args in
-    by-none a.m a.cell a.other a.k (ne_eqb _ 1 c.if-m-k-eq1.false) (not-true a.m.centre c.if-not-m.true)
+    by_none a.m a.cell a.other a.k (ne_eqb _ 1 c.if-m-k-eq1.false) (not-true a.m.centre c.if-not-m.true)
 
 pub returns : goal.returns
 returns c =
     let a = c.args in
-    c.same_box.ensures ∙ by-centre a.m a.cell a.other a.k (ne_eqb _ 1 c.if-m-k-eq1.false) (not-false a.m.centre c.if-not-m.false)
+    c.same_box.ensures ∙ by_centre a.m a.cell a.other a.k (ne_eqb _ 1 c.if-m-k-eq1.false) (not-false a.m.centre c.if-not-m.false)

@@ -34,18 +34,18 @@ one s = region_of s.args.first.now s.args.first_ends.now
 abbrev two : Start → Region
 two s = region_of s.args.second.now s.args.second_ends.now
 
-few-rows : (c : After-grid_of-g) → c.grid_of-g.result.rows ≤ 3
-few-rows c = (kept_size _ _ _ c.grid_of-g.ensures).rows_few
+few_rows : (c : After-grid_of-g) → c.grid_of-g.result.rows ≤ 3
+few_rows c = (kept_size _ _ _ c.grid_of-g.ensures).rows_few
 
 pub region_drawn-one-requires : goal.region_drawn-one-requires
 region_drawn-one-requires c =
     let p = c.requires in
-    (few-rows c, in_places c.region_box-b.ensures p.1, p.0)
+    (few_rows c, in_places c.region_box-b.ensures p.1, p.0)
 
 pub region_drawn-two-requires : goal.region_drawn-two-requires
 region_drawn-two-requires c =
     let p = c.requires in
-    (few-rows (goal.at.region_drawn-two-requires c).After-grid_of-g, in_places c.region_box-a.ensures p.0, p.1)
+    (few_rows (goal.at.region_drawn-two-requires c).After-grid_of-g, in_places c.region_box-a.ensures p.0, p.1)
 
 pub cells_drawn-cells-requires : goal.cells_drawn-cells-requires
 cells_drawn-cells-requires c = c.grid_of-g.ensures

@@ -8,18 +8,18 @@ use Rattle.drawn.specs.Steps.{near}
 use Rattle.drawn.proofs.near.Goals as goal
 
 module _ (a b lo hi : ℕ) where
-  before-it : hi < min a b → false ≡ near a b lo hi
+  before_it : hi < min a b → false ≡ near a b lo hi
   unfolding near
-  before-it h = rw (lt-leb (min a b) hi h) refl
+  before_it h = rw (lt-leb (min a b) hi h) refl
 
-  by-its-end : min a b ≤ hi → leb lo (max a b) ≡ near a b lo hi
+  by_its_end : min a b ≤ hi → leb lo (max a b) ≡ near a b lo hi
   unfolding near
-  by-its-end h = rw (le-leb (min a b) hi h) refl
+  by_its_end h = rw (le-leb (min a b) hi h) refl
 
 pub returns-then-hi-lesser : goal.returns-then-hi-lesser
-returns-then-hi-lesser c = let a = c.args in before-it a.a a.b a.lo a.hi (omega (arith, c.if-hi-lesser.true, c.lesser.ensures))
+returns-then-hi-lesser c = let a = c.args in before_it a.a a.b a.lo a.hi (omega (arith, c.if-hi-lesser.true, c.lesser.ensures))
 
 pub returns : goal.returns
 returns c =
     let a = c.args in
-    ap (leb a.lo) c.greater.ensures ∙ by-its-end a.a a.b a.lo a.hi (omega (arith, c.if-hi-lesser.false, c.lesser.ensures))
+    ap (leb a.lo) c.greater.ensures ∙ by_its_end a.a a.b a.lo a.hi (omega (arith, c.if-hi-lesser.false, c.lesser.ensures))

@@ -7,8 +7,8 @@ use Rattle.drawing.specs.Stays.{overlaps}
 use Rattle.drawn.proofs.overlaps.Goals as goal
 
 -- where three tests hold the fourth decides
-last-decides : (p q r s : Bool) → p ≡ true → q ≡ true → r ≡ true → s ≡ p && (q && (r && s))
-last-decides p q r s x y z = rw (x, y, z)
+last_decides : (p q r s : Bool) → p ≡ true → q ≡ true → r ≡ true → s ≡ p && (q && (r && s))
+last_decides p q r s x y z = rw (x, y, z)
 
 pub returns-then-s : goal.returns-then-s
 unfolding overlaps
@@ -46,4 +46,4 @@ overflow_mul-result-2 c =
 pub returns : goal.returns
 unfolding overlaps
 returns c =
-    last-decides _ _ _ _ (lt-ltb _ _ c.if-s.false) (lt-ltb _ _ c.if-t.false) (lt-ltb _ _ c.if-t-s.false)
+    last_decides _ _ _ _ (lt-ltb _ _ c.if-s.false) (lt-ltb _ _ c.if-t.false) (lt-ltb _ _ c.if-t-s.false)

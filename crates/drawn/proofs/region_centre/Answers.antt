@@ -27,8 +27,8 @@ module _ (s : Start) where
   abbrev There : ℕ → ℕ → Type 0
   There from n = Stretch region.coordinates from n × (0 < n)
 
-  ring-there : (r : ℕ) → r < length region.ends → There (start_of region.ends r) (size_of region.ends r)
-  ring-there r h = (ring_stretch sizes r h (in_range_lem s.requires.1), omega (arith, size_least region.ends sizes.grown r h))
+  ring_there : (r : ℕ) → r < length region.ends → There (start_of region.ends r) (size_of region.ends r)
+  ring_there r h = (ring_stretch sizes r h (in_range_lem s.requires.1), omega (arith, size_least region.ends sizes.grown r h))
 
 pub loop-r-init : goal.loop-r-init
 loop-r-init c = (omega arith, none_yet _)
@@ -44,13 +44,13 @@ size_of-requires c =
 pub ring_centre-requires : goal.ring_centre-requires
 ring_centre-requires c =
     let start = (goal.at.ring_centre-requires c).Start in
-    let there = answered (There start) c.start_of.ensures c.size_of.ensures (ring-there start c.loop-r.r c.loop-r-test.true) in
+    let there = answered (There start) c.start_of.ensures c.size_of.ensures (ring_there start c.loop-r.r c.loop-r-test.true) in
     (c.requires.0, there.0, there.1)
 
 -- the ring that the pass looked at
 module _ (c : After-ring_centre) where
-  ring-is : c.ring_centre.result ≡ ring c.args.other (region_of c.args.outline.now c.args.ends.now) c.loop-r.r
-  ring-is =
+  ring_is : c.ring_centre.result ≡ ring c.args.other (region_of c.args.outline.now c.args.ends.now) c.loop-r.r
+  ring_is =
       c.ring_centre.ensures
       ∙ answered (λ from n. ring_centre c.args.other (region_of c.args.outline.now c.args.ends.now).coordinates from n
       ≡ ring c.args.other (region_of c.args.outline.now c.args.ends.now) c.loop-r.r)
@@ -58,10 +58,10 @@ module _ (c : After-ring_centre) where
 
 pub returns-then-ring_centre : goal.returns-then-ring_centre
 unfolding region_centre
-returns-then-ring_centre c = found _ _ c.loop-r.r c.loop-r-test.true (sym (ring-is (goal.at.returns-then-ring_centre c).After-ring_centre) ∙ c.if-ring_centre.true)
+returns-then-ring_centre c = found _ _ c.loop-r.r c.loop-r-test.true (sym (ring_is (goal.at.returns-then-ring_centre c).After-ring_centre) ∙ c.if-ring_centre.true)
 
 pub loop-r-preserved : goal.loop-r-preserved
-loop-r-preserved c = (omega arith, none_more _ c.loop-r.r c.loop-r.invariant.1 (sym (ring-is (goal.at.loop-r-preserved c).After-ring_centre) ∙ c.if-ring_centre.false))
+loop-r-preserved c = (omega arith, none_more _ c.loop-r.r c.loop-r.invariant.1 (sym (ring_is (goal.at.loop-r-preserved c).After-ring_centre) ∙ c.if-ring_centre.false))
 
 pub returns : goal.returns
 unfolding region_centre

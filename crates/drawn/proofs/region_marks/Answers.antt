@@ -25,8 +25,8 @@ module _ (s : Start) where
   sizes : Sized region
   sizes = sized (keeps_fewer (omega arith) s.requires.1)
 
-  ring-there : (r : ℕ) → r < length region.ends → Stretch region.coordinates (start_of region.ends r) (size_of region.ends r)
-  ring-there r h = ring_stretch sizes r h (in_range_lem s.requires.1)
+  ring_there : (r : ℕ) → r < length region.ends → Stretch region.coordinates (start_of region.ends r) (size_of region.ends r)
+  ring_there r h = ring_stretch sizes r h (in_range_lem s.requires.1)
 
 pub loop-r-init : goal.loop-r-init
 loop-r-init c = (omega arith, any_set_none (rings c.args.own c.args.g (region (goal.at.loop-r-init c).Start)) 9)
@@ -42,15 +42,15 @@ size_of-requires c =
 pub ring_marks-set-requires : goal.ring_marks-set-requires
 ring_marks-set-requires c =
     let start = (goal.at.ring_marks-set-requires c).Start in
-    (c.requires.0, answered (Stretch (region start).coordinates) c.start_of.ensures c.size_of.ensures (ring-there start c.loop-r.r c.loop-r-test.true))
+    (c.requires.0, answered (Stretch (region start).coordinates) c.start_of.ensures c.size_of.ensures (ring_there start c.loop-r.r c.loop-r-test.true))
 
 -- the ring that the pass looked at
 module _ (c : After-ring_marks-set) where
   abbrev begin : Start
   begin = (goal.at.loop-r-preserved c).Start
 
-  ring-is : c.ring_marks-set.result ≡ set_of (rings c.args.own c.args.g (region begin) c.loop-r.r) 9
-  ring-is =
+  ring_is : c.ring_marks-set.result ≡ set_of (rings c.args.own c.args.g (region begin) c.loop-r.r) 9
+  ring_is =
       c.ring_marks-set.ensures
       ∙ answered (λ from n. set_of (λ d. ring c.args.own (cell_in c.args.g (d / 3) (d % 3)) (region begin).coordinates from n) 9
       ≡ set_of (rings c.args.own c.args.g (region begin) c.loop-r.r) 9)
@@ -58,7 +58,7 @@ module _ (c : After-ring_marks-set) where
 
 pub loop-r-preserved : goal.loop-r-preserved
 loop-r-preserved c =
-    (omega arith, (λ i. bit_or (c.loop-r.invariant.1 i) (ring-is c i)) ∙ any_set_more (rings c.args.own c.args.g (region (goal.at.loop-r-preserved c).Start)) 9 c.loop-r.r)
+    (omega arith, (λ i. bit_or (c.loop-r.invariant.1 i) (ring_is c i)) ∙ any_set_more (rings c.args.own c.args.g (region (goal.at.loop-r-preserved c).Start)) 9 c.loop-r.r)
 
 pub returns : goal.returns
 unfolding edges_mark

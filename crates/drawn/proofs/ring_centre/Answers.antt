@@ -14,9 +14,9 @@ module _ (other : Box) (xs : List ℤ) (from n : ℕ) where
   unfolding ring_centre
   not_covered r = rw r refl
 
-  by-centre : covers (stretch_box xs from n) other ≡ true → encloses other xs from n ≡ ring_centre other xs from n
+  by_centre : covers (stretch_box xs from n) other ≡ true → encloses other xs from n ≡ ring_centre other xs from n
   unfolding ring_centre
-  by-centre r = rw r refl
+  by_centre r = rw r refl
 
 pub stretch_box-requires : goal.stretch_box-requires
 stretch_box-requires c = (c.requires.1, c.requires.2)
@@ -34,5 +34,5 @@ pub returns : goal.returns
 returns c =
     let a = c.args in
     c.ring_encloses.ensures
-    ∙ by-centre a.other a.xs.now a.from a.n
+    ∙ by_centre a.other a.xs.now a.from a.n
     (sym (c.covers_box.ensures ∙ ap (λ (b : Box). covers b a.other) c.stretch_box.ensures) ∙ c.if-not-covers_box.false)

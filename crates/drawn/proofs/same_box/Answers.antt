@@ -5,8 +5,8 @@ use Rattle.drawing.specs.Drawing.{same_box}
 use Rattle.drawn.proofs.same_box.Goals as goal
 
 -- where three tests hold the fourth decides
-last-decides : (p q r s : Bool) → p ≡ true → q ≡ true → r ≡ true → s ≡ p && (q && (r && s))
-last-decides p q r s x y z = rw (x, y, z)
+last_decides : (p q r s : Bool) → p ≡ true → q ≡ true → r ≡ true → s ≡ p && (q && (r && s))
+last_decides p q r s x y z = rw (x, y, z)
 
 pub returns-then-k-b : goal.returns-then-k-b
 unfolding same_box
@@ -24,4 +24,4 @@ returns-then-k-b-3 c =
 pub returns : goal.returns
 unfolding same_box
 returns c =
-    last-decides _ _ _ _ (eq-eqb _ _ c.if-k-b.false) (eq-eqb _ _ c.if-k-b-2.false) (eq-eqb _ _ c.if-k-b-3.false)
+    last_decides _ _ _ _ (eq-eqb _ _ c.if-k-b.false) (eq-eqb _ _ c.if-k-b-2.false) (eq-eqb _ _ c.if-k-b-3.false)

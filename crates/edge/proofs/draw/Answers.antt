@@ -15,26 +15,26 @@ use Rattle.edge.specs.TileList.{count_in, stands_in}
 use Rattle.edge.specs.Drawn.{drawn}
 use Rattle.edge.proofs.TileList.{digit_next, digit_there}
 use Rattle.edge.proofs.draw.Goals as goal
-use Rattle.edge.proofs.draw.Invariants.{standsAt, there}
+use Rattle.edge.proofs.draw.Invariants.{stands_at, there}
 
 -- digit j, where the rest is what is left of v
 module _ (v j rest : ℕ) (e : rest ≡ v / 16 ^ j) where
-  tiles-next : (set tile : ℕ) → set ≡ any_set (standsAt v) j 9 → tile ≡ set_of (λ t. eqb (rest % 16) (t + 1)) 9 → bit_or set tile ≡ any_set (standsAt v) (j + 1) 9
-  tiles-next set tile p q = rw (p, q, e) (any_set_more (standsAt v) 9 j)
+  tiles_next : (set tile : ℕ) → set ≡ any_set (stands_at v) j 9 → tile ≡ set_of (λ t. eqb (rest % 16) (t + 1)) 9 → bit_or set tile ≡ any_set (stands_at v) (j + 1) 9
+  tiles_next set tile p q = rw (p, q, e) (any_set_more (stands_at v) 9 j)
 
   count_next : (count : ℕ) → count ≡ sum_to (there v) j → count + bool_byte (ltb 0 rest) ≡ sum_to (there v) (j + 1)
   count_next count p = rw (p, byte_is (ltb 0 rest), e, digit_there v j) (sum_step (there v) j)
 
-  rest-next : rest / 16 ≡ v / 16 ^ (j + 1)
-  rest-next = ap (λ (z : ℕ). z / 16) e ∙ digit_next v j
+  rest_next : rest / 16 ≡ v / 16 ^ (j + 1)
+  rest_next = ap (λ (z : ℕ). z / 16) e ∙ digit_next v j
 
-all_digits : (v set count : ℕ) → set ≡ any_set (standsAt v) 5 9 → count ≡ sum_to (there v) 5 → (pieces : ℕ) → pieces ≡ max 1 count
+all_digits : (v set count : ℕ) → set ≡ any_set (stands_at v) 5 9 → count ≡ sum_to (there v) 5 → (pieces : ℕ) → pieces ≡ max 1 count
     → ◌≡◌ {A = Walk} (record { list = v; set = set; pieces = pieces }) (drawn v)
 unfolding stands_in count_in
 all_digits v set count e f pieces g = let h = g ∙ ap (max 1) f in λ i. record { list = v; set = e i; pieces = h i }
 
 pub loop-j-init : goal.loop-j-init
-loop-j-init c = let v = c.args.list in (omega arith, sym (div-one v), any_set_none (standsAt v) 9, sum_none (there v), omega arith)
+loop-j-init c = let v = c.args.list in (omega arith, sym (div-one v), any_set_none (stands_at v) 9, sum_none (there v), omega arith)
 
 pub overflow_add-count : goal.overflow_add-count
 overflow_add-count c = let l = c.loop-j in record { fits = omega (arith, l.invariant.4, byte_le (ltb 0 l.rest)) }
@@ -44,8 +44,8 @@ loop-j-preserved c =
     let v = c.args.list in
     let l = c.loop-j in (
       omega arith,
-      rest-next v l.j l.rest l.invariant.1,
-      tiles-next v l.j l.rest l.invariant.1 l.set c.tile_set-set.result l.invariant.2 c.tile_set-set.ensures,
+      rest_next v l.j l.rest l.invariant.1,
+      tiles_next v l.j l.rest l.invariant.1 l.set c.tile_set-set.result l.invariant.2 c.tile_set-set.ensures,
       count_next v l.j l.rest l.invariant.1 l.count l.invariant.3,
       omega (arith, l.invariant.4, byte_le (ltb 0 l.rest)),
     )
@@ -55,4 +55,4 @@ returns c =
     let v = c.args.list in
     let l = c.loop-j in
     let e : l.j ≡ 5 = omega (arith, l.invariant.0, c.loop-j-test.false) in
-    all_digits v l.set l.count (l.invariant.2 ∙ ap (λ (j : ℕ). any_set (standsAt v) j 9) e) (l.invariant.3 ∙ ap (sum_to (there v)) e) c.greater.result c.greater.ensures
+    all_digits v l.set l.count (l.invariant.2 ∙ ap (λ (j : ℕ). any_set (stands_at v) j 9) e) (l.invariant.3 ∙ ap (sum_to (there v)) e) c.greater.result c.greater.ensures

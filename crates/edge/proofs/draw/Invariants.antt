@@ -9,14 +9,14 @@ use Rattle.plane.proofs.TileSet.{any_set}
 use Rattle.edge.specs.TileList.{digit_in}
 use Rattle.edge.proofs.draw.Given as goal
 
-abbrev pub standsAt : ℕ → ℕ → ℕ → Bool
-standsAt v j t = eqb (digit_in v j) (t + 1)
+abbrev pub stands_at : ℕ → ℕ → ℕ → Bool
+stands_at v j t = eqb (digit_in v j) (t + 1)
 
 abbrev pub there : ℕ → ℕ → ℕ
 there v j = one_if (leb (16 ^ j) v)
 
 abbrev pub invariant-loop-j : goal.invariant-loop-j
-invariant-loop-j l = (l.j ≤ 5) × (l.rest ≡ l.list / 16 ^ l.j) × (l.set ≡ any_set (standsAt l.list) l.j 9) × (l.count ≡ sum_to (there l.list) l.j) × (l.count ≤ l.j)
+invariant-loop-j l = (l.j ≤ 5) × (l.rest ≡ l.list / 16 ^ l.j) × (l.set ≡ any_set (stands_at l.list) l.j 9) × (l.count ≡ sum_to (there l.list) l.j) × (l.count ≤ l.j)
 
 abbrev pub decreases-loop-j : goal.decreases-loop-j
 decreases-loop-j l = 5 - l.j

@@ -20,51 +20,51 @@ module _ (c : After-enter-s) where
   abbrev y : Axis
   y = c.args.y
 
-  fits-x : AxisFits x 2000000
-  fits-x = c.requires.0
+  fits_x : AxisFits x 2000000
+  fits_x = c.requires.0
 
-  fits-y : AxisFits y 2000000
-  fits-y = c.requires.1
+  fits_y : AxisFits y 2000000
+  fits_y = c.requires.1
 
   begins : c.enter-s.result ≡ begin_of x y
   begins = c.enter-s.ensures ∙ ap₂ (λ (k l : ℕ). enter_of x.down y.down k l 0) c.lines_at_start.ensures.0 c.lines_at_start-2.ensures.0
 
-  one-fits : StateFits c.enter-s.result 1
-  one-fits = rw c.enter-s.ensures (enter_fits 0 _ _ _ _ _ c.lines_at_start.ensures.1 c.lines_at_start-2.ensures.1 (omega arith))
+  one_fits : StateFits c.enter-s.result 1
+  one_fits = rw c.enter-s.ensures (enter_fits 0 _ _ _ _ _ c.lines_at_start.ensures.1 c.lines_at_start-2.ensures.1 (omega arith))
 
 -- ---- after one more step
-next-fits : (x y : Axis) (n : ℕ) (s t : State) → t ≡ step_of x y s → StateFits s n → StateFits t (n + 1)
-next-fits x y n s t e h = rw e (step_fits x y n s h)
+next_fits : (x y : Axis) (n : ℕ) (s t : State) → t ≡ step_of x y s → StateFits s n → StateFits t (n + 1)
+next_fits x y n s t e h = rw e (step_fits x y n s h)
 
 pub returns-then-done : goal.returns-then-done
 returns-then-done c =
     let s = (goal.at.returns-then-done c).After-enter-s in
-    listed (ended_0 (x s) (y s) 2000000 (fits-x s) (fits-y s) _ (begins s) (sym c.done.ensures ∙ c.if-done.true))
+    listed (ended_0 (x s) (y s) 2000000 (fits_x s) (fits_y s) _ (begins s) (sym c.done.ensures ∙ c.if-done.true))
 
 pub step-s1-requires : goal.step-s1-requires
-step-s1-requires c = let s = (goal.at.step-s1-requires c).After-enter-s in (fits-x s, fits-y s, fits_more 1 _ (omega arith) (one-fits s))
+step-s1-requires c = let s = (goal.at.step-s1-requires c).After-enter-s in (fits_x s, fits_y s, fits_more 1 _ (omega arith) (one_fits s))
 
 pub returns-then-done-2 : goal.returns-then-done-2
 returns-then-done-2 c =
     let s = (goal.at.returns-then-done-2 c).After-enter-s in
-    listed (ended_1 (x s) (y s) 2000000 (fits-x s) (fits-y s) _ (begins s) _ c.step-s1.ensures (sym c.done-2.ensures ∙ c.if-done-2.true))
+    listed (ended_1 (x s) (y s) 2000000 (fits_x s) (fits_y s) _ (begins s) _ c.step-s1.ensures (sym c.done-2.ensures ∙ c.if-done-2.true))
 
 pub step-s2-requires : goal.step-s2-requires
 step-s2-requires c =
     let s = (goal.at.step-s2-requires c).After-enter-s in
-    (fits-x s, fits-y s, fits_more 2 _ (omega arith) (next-fits (x s) (y s) 1 _ _ c.step-s1.ensures (one-fits s)))
+    (fits_x s, fits_y s, fits_more 2 _ (omega arith) (next_fits (x s) (y s) 1 _ _ c.step-s1.ensures (one_fits s)))
 
 pub returns-then-done-3 : goal.returns-then-done-3
 returns-then-done-3 c =
     let s = (goal.at.returns-then-done-3 c).After-enter-s in
-    listed (ended_2 (x s) (y s) 2000000 (fits-x s) (fits-y s) _ (begins s) _ _ c.step-s1.ensures c.step-s2.ensures (sym c.done-3.ensures ∙ c.if-done-3.true))
+    listed (ended_2 (x s) (y s) 2000000 (fits_x s) (fits_y s) _ (begins s) _ _ c.step-s1.ensures c.step-s2.ensures (sym c.done-3.ensures ∙ c.if-done-3.true))
 
 pub finish-s4-requires : goal.finish-s4-requires
 finish-s4-requires c =
     let s = (goal.at.finish-s4-requires c).After-enter-s in
-    (fits-x s, fits-y s, next-fits (x s) (y s) 2 _ _ c.step-s2.ensures (next-fits (x s) (y s) 1 _ _ c.step-s1.ensures (one-fits s)))
+    (fits_x s, fits_y s, next_fits (x s) (y s) 2 _ _ c.step-s2.ensures (next_fits (x s) (y s) 1 _ _ c.step-s1.ensures (one_fits s)))
 
 pub returns : goal.returns
 returns c =
     let s = (goal.at.returns c).After-enter-s in
-    listed (ended_4 (x s) (y s) 2000000 (fits-x s) (fits-y s) _ (begins s) _ _ _ c.step-s1.ensures c.step-s2.ensures c.finish-s4.ensures)
+    listed (ended_4 (x s) (y s) 2000000 (fits_x s) (fits_y s) _ (begins s) _ _ _ c.step-s1.ensures c.step-s2.ensures c.finish-s4.ensures)

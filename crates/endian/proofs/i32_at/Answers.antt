@@ -6,8 +6,8 @@ use Rattle.endian.specs.Bytes.{signed}
 use borrow.Author.Rules.{rules}
 use Rattle.endian.proofs.i32_at.Reads as reads
 use Rattle.endian.proofs.i32_at.Lts as lts
-use Rattle.endian.proofs.signed_of.Reads as signed-of-reads
-use Rattle.endian.proofs.u32_at.Reads as u32-at-reads
+use Rattle.endian.proofs.signed_of.Reads as signed_of_reads
+use Rattle.endian.proofs.u32_at.Reads as u32_at_reads
 use Rattle.endian.proofs.i32_at.Goals as goal
 
 pub returns : goal.returns

@@ -6,8 +6,8 @@ use Rattle.endian.specs.Placed.{placed, u32_bytes}
 use borrow.Author.Rules.{rules}
 use Rattle.endian.proofs.put_i32.Reads as reads
 use Rattle.endian.proofs.put_i32.Lts as lts
-use Rattle.endian.proofs.put_u32.Reads as put-u32-reads
-use Rattle.endian.proofs.unsigned_of.Reads as unsigned-of-reads
+use Rattle.endian.proofs.put_u32.Reads as put_u32_reads
+use Rattle.endian.proofs.unsigned_of.Reads as unsigned_of_reads
 use Rattle.endian.proofs.put_i32.Goals as goal
 
 pub returns : goal.returns

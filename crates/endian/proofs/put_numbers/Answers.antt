@@ -11,8 +11,8 @@ use Rattle.endian.proofs.Placed.{Placing, placing_none, placing_more, placing_al
 use borrow.Author.Rules.{rules}
 use Rattle.endian.proofs.put_numbers.Reads as reads
 use Rattle.endian.proofs.put_numbers.Lts as lts
-use Rattle.endian.proofs.number_at.Reads as number-at-reads
-use Rattle.endian.proofs.put_i32.Reads as put-i32-reads
+use Rattle.endian.proofs.number_at.Reads as number_at_reads
+use Rattle.endian.proofs.put_i32.Reads as put_i32_reads
 use Rattle.endian.proofs.put_numbers.Goals as goal
 
 pub loop-k-init : goal.loop-k-init

@@ -7,7 +7,7 @@ use Rattle.endian.proofs.Placed.{placed_append}
 use borrow.Author.Rules.{rules}
 use Rattle.endian.proofs.put_u32.Reads as reads
 use Rattle.endian.proofs.put_u32.Lts as lts
-use Rattle.endian.proofs.put_u16.Reads as put-u16-reads
+use Rattle.endian.proofs.put_u16.Reads as put_u16_reads
 use Rattle.endian.proofs.put_u32.Goals as goal
 
 pub returns : goal.returns

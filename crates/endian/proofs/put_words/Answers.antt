@@ -7,7 +7,7 @@ use Rattle.endian.proofs.Placed.{Placing, placing_none, placing_more, placing_al
 use borrow.Author.Rules.{rules}
 use Rattle.endian.proofs.put_words.Reads as reads
 use Rattle.endian.proofs.put_words.Lts as lts
-use Rattle.endian.proofs.put_u16.Reads as put-u16-reads
+use Rattle.endian.proofs.put_u16.Reads as put_u16_reads
 use Rattle.endian.proofs.put_words.Goals as goal
 
 pub loop-k-init : goal.loop-k-init

@@ -10,8 +10,8 @@ use Rattle.field.proofs.field_at.Goals as goal
 use Rattle.field.proofs.field_at.Goals.{Start}
 
 -- the front of a list, as a part of it is written
-front-is : {A : Type 0} {t : List A} (n m : ℕ) (l : List A) → n ≡ m → take (m - 0) (drop 0 l) ≡ t → take n l ≡ t
-front-is n m l e f = let z : n ≡ m - 0 = omega (arith, e) in ap (λ (j : ℕ). take j l) z ∙ f
+front_is : {A : Type 0} {t : List A} (n m : ℕ) (l : List A) → n ≡ m → take (m - 0) (drop 0 l) ≡ t → take n l ≡ t
+front_is n m l e f = let z : n ≡ m - 0 = omega (arith, e) in ap (λ (j : ℕ). take j l) z ∙ f
 
 module _ (s : Start) where
   abbrev card : List ℕ
@@ -34,6 +34,6 @@ returns c =
     record {
       slot = c.slot_at-slot.ensures;
       rings = c.read_ends-rings.ensures.value;
-      ends = front-is c.read_ends-rings.result c.read_ends-rings.result c.read_ends-rings.new.ends refl (ends_read (card (goal.at.returns c).Start) c.args.k _ c.read_ends-rings.ensures.value c.read_ends-rings.ensures.ends_after);
-      numbers = front-is _ c.read_numbers.result c.read_numbers.new.numbers (sym c.read_numbers.ensures.value) (numbers_read (card (goal.at.returns c).Start) c.args.k _ c.read_numbers.ensures.value c.read_numbers.ensures.numbers_after);
+      ends = front_is c.read_ends-rings.result c.read_ends-rings.result c.read_ends-rings.new.ends refl (ends_read (card (goal.at.returns c).Start) c.args.k _ c.read_ends-rings.ensures.value c.read_ends-rings.ensures.ends_after);
+      numbers = front_is _ c.read_numbers.result c.read_numbers.new.numbers (sym c.read_numbers.ensures.value) (numbers_read (card (goal.at.returns c).Start) c.args.k _ c.read_numbers.ensures.value c.read_numbers.ensures.numbers_after);
     }

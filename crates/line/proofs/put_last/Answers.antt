@@ -14,14 +14,14 @@ use Rattle.line.proofs.put_last.Goals.{Then-differs}
 abbrev word : List ℕ
 word = 100 ∷ 105 ∷ 102 ∷ 102 ∷ 101 ∷ 114 ∷ line_feed ∷ []
 
-with-word : (n : ℕ) {t : Bool} → t ≡ true → (decimal n ++ (space ∷ [])) ++ word ≡ last_words n t
-with-word n e = append_assoc (decimal n) (space ∷ []) word ∙ ap (last_words n) (sym e)
+with_word : (n : ℕ) {t : Bool} → t ≡ true → (decimal n ++ (space ∷ [])) ++ word ≡ last_words n t
+with_word n e = append_assoc (decimal n) (space ∷ []) word ∙ ap (last_words n) (sym e)
 
 without : (n : ℕ) {t : Bool} → t ≡ false → decimal n ++ (line_feed ∷ []) ≡ last_words n t
 without n e = ap (last_words n) (sym e)
 
 room : (c : Then-differs) → let a = c.args in a.from + length ((decimal a.pieces ++ (space ∷ [])) ++ word) ≤ length a.out.now
-room c = omega (arith, c.requires, ap length (with-word c.args.pieces c.if-differs.true))
+room c = omega (arith, c.requires, ap length (with_word c.args.pieces c.if-differs.true))
 
 pub put_number-at-requires : goal.put_number-at-requires
 put_number-at-requires c =
@@ -35,7 +35,7 @@ put_text-requires c =
 pub returns-then-differs : goal.returns-then-differs
 returns-then-differs c =
     let a = c.args in
-    put_as (with-word a.pieces c.if-differs.true) (put_then (decimal a.pieces ++ (space ∷ [])) word c.put_number-at.ensures c.put_text.ensures)
+    put_as (with_word a.pieces c.if-differs.true) (put_then (decimal a.pieces ++ (space ∷ [])) word c.put_number-at.ensures c.put_text.ensures)
 
 pub put_number-requires : goal.put_number-requires
 put_number-requires c =

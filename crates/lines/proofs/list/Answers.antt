@@ -42,10 +42,10 @@ full c =
     listed card (good (goal.at.overflow_cast-parcel_count c).Else-number-ne0) ∙ ap (λ (n : ℕ). parcels_word ++ ((decimal n ++ (line_feed ∷ [])) ++ joined (row_of card) (parcel_count card))) (sym c.parcel_count.ensures)
 
 -- there is room behind the word
-behind-word : (c : After-parcel_count)
+behind_word : (c : After-parcel_count)
     → let card = c.args.card.now in
     c.put_text-at-2.result + length ((decimal c.parcel_count.result ++ (line_feed ∷ [])) ++ joined (row_of card) (parcel_count card)) ≤ length c.put_text-at-2.new.out
-behind-word c =
+behind_word c =
     let card = c.args.card.now in
     room_next parcels_word ((decimal c.parcel_count.result ++ (line_feed ∷ [])) ++ joined (row_of card) (parcel_count card)) c.put_text-at-2.ensures
     (room card c.args.out.now (omega arith) (full c))
@@ -70,12 +70,12 @@ overflow_cast-parcel_count c =
 
 pub put_number-at-requires : goal.put_number-at-requires
 put_number-at-requires c =
-    room_first c.put_text-at-2.result _ (decimal c.parcel_count.result ++ (line_feed ∷ [])) _ (behind-word c)
+    room_first c.put_text-at-2.result _ (decimal c.parcel_count.result ++ (line_feed ∷ [])) _ (behind_word c)
 
 pub put_rows-requires : goal.put_rows-requires
 put_rows-requires c =
     let card = c.args.card.now in
-    (good (goal.at.put_rows-requires c).Else-number-ne0, room_next (decimal c.parcel_count.result ++ (line_feed ∷ [])) (joined (row_of card) (parcel_count card)) c.put_number-at.ensures (behind-word (goal.at.put_rows-requires c).After-parcel_count))
+    (good (goal.at.put_rows-requires c).Else-number-ne0, room_next (decimal c.parcel_count.result ++ (line_feed ∷ [])) (joined (row_of card) (parcel_count card)) c.put_number-at.ensures (behind_word (goal.at.put_rows-requires c).After-parcel_count))
 
 pub returns : goal.returns
 returns c =

@@ -30,8 +30,8 @@ keeps card k e h = keeps_fewer (omega arith) (((good_means card).0 e).parcels_ke
 
 -- the ring ends that were read
 module _ (c : After-read_ends-rings) where
-  ends-fit : c.read_ends-rings.result ≤ length c.read_ends-rings.new.ends
-  ends-fit = omega (arith, c.read_ends-rings.ensures.value, (entry_few c.args.card.now (right c.args.card.now c.requires.0).parcels c.args.k c.requires.1).1, c.read_ends-rings.auto.ends)
+  ends_fit : c.read_ends-rings.result ≤ length c.read_ends-rings.new.ends
+  ends_fit = omega (arith, c.read_ends-rings.ensures.value, (entry_few c.args.card.now (right c.args.card.now c.requires.0).parcels c.args.k c.requires.1).1, c.read_ends-rings.auto.ends)
 
   ends_are : take (c.read_ends-rings.result - 0) (drop 0 c.read_ends-rings.new.ends) ≡ ends_at c.args.card.now c.args.k
   ends_are = ends_read c.args.card.now c.args.k _ c.read_ends-rings.ensures.value c.read_ends-rings.ensures.ends_after
@@ -57,7 +57,7 @@ pub slice_bounds-write_among-end : goal.slice_bounds-write_among-end
 slice_bounds-write_among-end c = omega (arith, numbers_fit (goal.at.slice_bounds-write_among-end c).After-read_numbers-n)
 
 pub slice_bounds-write_among-end-2 : goal.slice_bounds-write_among-end-2
-slice_bounds-write_among-end-2 c = omega (arith, ends-fit (goal.at.slice_bounds-write_among-end-2 c).After-read_ends-rings)
+slice_bounds-write_among-end-2 c = omega (arith, ends_fit (goal.at.slice_bounds-write_among-end-2 c).After-read_ends-rings)
 
 pub write_among-requires : goal.write_among-requires
 write_among-requires c =

@@ -24,9 +24,9 @@ subtracted c =
     let q : SFits w64 c.product-2.result = record { sfits = c.product-2.type_inv } in
     ap₂ (λ (x y : ℤ). x -ℤ y) (to_z-of_z p ∙ c.product.ensures) (to_z-of_z q ∙ c.product-2.ensures)
 
-side-fits : (g : Edge) (x y : ℕ) → EdgeInPlaces g → x ≤ 2000000 → y ≤ 2000000
+side_fits : (g : Edge) (x y : ℕ) → EdgeInPlaces g → x ≤ 2000000 → y ≤ 2000000
     → SFits w64 (product_of g.bx g.ax y g.ay -ℤ product_of g.by g.ay x g.ax)
-side-fits g x y p hx hy =
+side_fits g x y p hx hy =
     fits (product_of g.bx g.ax y g.ay -ℤ product_of g.by g.ay x g.ax) (plus g x y) (minus g x y) (diff_side g x y)
     (omega (arith, mul-le-mul p.bx hy, mul-le-mul p.ax p.ay, mul-le-mul p.by p.ax, mul-le-mul p.ay hx))
     (omega (arith, mul-le-mul p.bx p.ay, mul-le-mul p.ax hy, mul-le-mul p.by hx, mul-le-mul p.ay p.ax))
@@ -35,10 +35,10 @@ pub overflow_sub-result : goal.overflow_sub-result
 overflow_sub-result c =
     let a = c.args in
     let p = c.requires in
-    rw (subtracted (goal.at.overflow_sub-result c).After-product-2) (side-fits a.g a.x a.y p.0 p.1 p.2)
+    rw (subtracted (goal.at.overflow_sub-result c).After-product-2) (side_fits a.g a.x a.y p.0 p.1 p.2)
 
 pub returns : goal.returns
 returns c =
     let a = c.args in
     let p = c.requires in
-    rw (subtracted (goal.at.returns c).After-product-2) (to_z-of_z (side-fits a.g a.x a.y p.0 p.1 p.2) ∙ side_is a.g a.x a.y)
+    rw (subtracted (goal.at.returns c).After-product-2) (to_z-of_z (side_fits a.g a.x a.y p.0 p.1 p.2) ∙ side_is a.g a.x a.y)

@@ -15,21 +15,21 @@ fit32 z h = record { sfits = omega (arith, mag_in z h) }
 fit64 : (z : ℤ) → in_range z ≡ true → SFits w64 z
 fit64 z h = record { sfits = omega (arith, mag_in z h) }
 
-fitP : (z : ℤ) → in_range z ≡ true → SFits w64 (pos (place_of z))
-fitP z h = record { sfits = omega (arith, place_le z h) }
+fit_p : (z : ℤ) → in_range z ≡ true → SFits w64 (pos (place_of z))
+fit_p z h = record { sfits = omega (arith, place_le z h) }
 
 pub overflow_cast-result : goal.overflow_cast-result
 overflow_cast-result c = let z = c.args.c in simp (to_z-of_z (fit32 z c.requires)) (fit64 z c.requires)
 
 pub overflow_add-result : goal.overflow_add-result
 overflow_add-result c = let z = c.args.c in
-    simp (to_z-of_z (fit32 z c.requires), to_z-of_z (fit64 z c.requires), place_shift z c.requires) (fitP z c.requires)
+    simp (to_z-of_z (fit32 z c.requires), to_z-of_z (fit64 z c.requires), place_shift z c.requires) (fit_p z c.requires)
 
 pub overflow_cast-result-2 : goal.overflow_cast-result-2
 overflow_cast-result-2 c = let z = c.args.c in
-    simp (to_z-of_z (fit32 z c.requires), to_z-of_z (fit64 z c.requires), place_shift z c.requires, to_z-of_z (fitP z c.requires))
+    simp (to_z-of_z (fit32 z c.requires), to_z-of_z (fit64 z c.requires), place_shift z c.requires, to_z-of_z (fit_p z c.requires))
     (tt, record { fits = omega (arith, place_le z c.requires) })
 
 pub returns : goal.returns
 returns c = let z = c.args.c in
-    simp (to_z-of_z (fit32 z c.requires), to_z-of_z (fit64 z c.requires), place_shift z c.requires, to_z-of_z (fitP z c.requires))
+    simp (to_z-of_z (fit32 z c.requires), to_z-of_z (fit64 z c.requires), place_shift z c.requires, to_z-of_z (fit_p z c.requires))

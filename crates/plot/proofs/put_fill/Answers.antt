@@ -11,21 +11,21 @@ use Rattle.plot.proofs.put_fill.Goals as goal
 abbrev fills : List ℕ
 fills = fill_at 0 ++ fill_at 1 ++ fill_at 2 ++ fill_at 3 ++ fill_at 4 ++ fill_at 5 ++ fill_at 6 ++ fill_at 7
 
-fill-cut : (k : ℕ) → k < 8 → take (k * 13 + 13 - k * 13) (drop (k * 13) fills) ≡ fill_at k
-fill-cut zero h = refl
-fill-cut (suc zero) h = refl
-fill-cut (suc (suc zero)) h = refl
-fill-cut (suc (suc (suc zero))) h = refl
-fill-cut (suc (suc (suc (suc zero)))) h = refl
-fill-cut (suc (suc (suc (suc (suc zero))))) h = refl
-fill-cut (suc (suc (suc (suc (suc (suc zero)))))) h = refl
-fill-cut (suc (suc (suc (suc (suc (suc (suc zero))))))) h = refl
-fill-cut (suc (suc (suc (suc (suc (suc (suc (suc k)))))))) h = absurd (omega arith)
+fill_cut : (k : ℕ) → k < 8 → take (k * 13 + 13 - k * 13) (drop (k * 13) fills) ≡ fill_at k
+fill_cut zero h = refl
+fill_cut (suc zero) h = refl
+fill_cut (suc (suc zero)) h = refl
+fill_cut (suc (suc (suc zero))) h = refl
+fill_cut (suc (suc (suc (suc zero)))) h = refl
+fill_cut (suc (suc (suc (suc (suc zero))))) h = refl
+fill_cut (suc (suc (suc (suc (suc (suc zero)))))) h = refl
+fill_cut (suc (suc (suc (suc (suc (suc (suc zero))))))) h = refl
+fill_cut (suc (suc (suc (suc (suc (suc (suc (suc k)))))))) h = absurd (omega arith)
 
-as-text : {b c : List ℕ} {at r : ℕ} {t u : List ℕ} → t ≡ u → Wrote b at t r c → Wrote b at u r c
-as-text {b} {c} {at} {r} e w = record { place = w.place ∙ ap (past b at) e; buffer = w.buffer ∙ ap (wrote b at) e }
+as_text : {b c : List ℕ} {at r : ℕ} {t u : List ℕ} → t ≡ u → Wrote b at t r c → Wrote b at u r c
+as_text {b} {c} {at} {r} e w = record { place = w.place ∙ ap (past b at) e; buffer = w.buffer ∙ ap (wrote b at) e }
 
 pub returns : goal.returns
 returns c =
     let slot = c.before.before.before.before.before.before.before.before.before.args.slot in
-    as-text (fill-cut (slot % 8) (omega arith)) c.put_text.ensures
+    as_text (fill_cut (slot % 8) (omega arith)) c.put_text.ensures

@@ -33,15 +33,15 @@ module _ (b : Box) (R : Region) where
       let s = sized (keeps_fewer (omega arith) kept) in
       omega (arith, (pieces_to kept b k h).1, start_le R.ends s.grown k (length R.ends) h (omega arith), s.small)
 
-  tiles-next : (k set : ℕ) (p : Seen) → set ≡ tiles b R k → p ≡ ring k → bit_or set p.set ≡ tiles b R (k + 1)
-  tiles-next k set p e f = rw (e, ap (λ (q : Seen). q.set) f) (any_set_more _ 9 k)
+  tiles_next : (k set : ℕ) (p : Seen) → set ≡ tiles b R k → p ≡ ring k → bit_or set p.set ≡ tiles b R (k + 1)
+  tiles_next k set p e f = rw (e, ap (λ (q : Seen). q.set) f) (any_set_more _ 9 k)
 
   count_next : (k sum : ℕ) (p : Seen) → sum ≡ count b R k → p ≡ ring k → sum + p.pieces ≡ count b R (k + 1)
   count_next k sum p e f = rw (e, ap (λ (q : Seen). q.pieces) f) (sum_step (λ r. ring_pieces b R.coordinates (start_of R.ends r) (size_of R.ends r)) k)
 
-  all-rings : (k set sum : ℕ) → k ≡ length R.ends → set ≡ tiles b R k → sum ≡ count b R k → ◌≡◌ {A = Seen} (record { set = set; pieces = sum }) (region_seen b R)
+  all_rings : (k set sum : ℕ) → k ≡ length R.ends → set ≡ tiles b R k → sum ≡ count b R k → ◌≡◌ {A = Seen} (record { set = set; pieces = sum }) (region_seen b R)
   unfolding relation_of region_has region_pieces
-  all-rings k set sum l e f = λ i. record { set = (e ∙ ap (tiles b R) l) i; pieces = (f ∙ ap (count b R) l) i }
+  all_rings k set sum l e f = λ i. record { set = (e ∙ ap (tiles b R) l) i; pieces = (f ∙ ap (count b R) l) i }
 
 -- what holds of the ring holds of the numbers that the calls answered
 answered : (P : ℕ → ℕ → Type 0) {from n start size : ℕ} → from ≡ start → n ≡ size → P start size → P from n
@@ -58,9 +58,9 @@ module _ (s : Start) where
   abbrev Seeable : ℕ → ℕ → Type 0
   Seeable from n = Stretch region.coordinates from n × (0 < n) × (covers s.args.own (stretch_box region.coordinates from n) ≡ true)
 
-  ring-there : (r : ℕ) → r < length region.ends → Seeable (start_of region.ends r) (size_of region.ends r)
+  ring_there : (r : ℕ) → r < length region.ends → Seeable (start_of region.ends r) (size_of region.ends r)
   unfolding region_box
-  ring-there r h =
+  ring_there r h =
       let some : 0 < size_of region.ends r = omega (arith, size_least region.ends sizes.grown r h) in (
         ring_stretch sizes r h (in_range_lem s.requires.2),
         some,
@@ -82,7 +82,7 @@ pub ring_seen-p-requires : goal.ring_seen-p-requires
 ring_seen-p-requires c =
     let s = (goal.at.ring_seen-p-requires c).Start in
     let there =
-    answered (Seeable s) c.start_of.ensures c.size_of.ensures (ring-there s c.loop-r.r c.loop-r-test.true) in
+    answered (Seeable s) c.start_of.ensures c.size_of.ensures (ring_there s c.loop-r.r c.loop-r-test.true) in
     (c.requires.0, c.requires.1, there.0, there.1, there.2)
 
 -- one ring more
@@ -90,23 +90,23 @@ module _ (c : After-ring_seen-p) where
   abbrev begin : Start
   begin = (goal.at.After-ring_seen-p c).Start
 
-  ring-is : c.ring_seen-p.result ≡ ring begin.args.b (region begin) c.loop-r.r
-  ring-is =
+  ring_is : c.ring_seen-p.result ≡ ring begin.args.b (region begin) c.loop-r.r
+  ring_is =
       c.ring_seen-p.ensures
       ∙ answered (λ from n. ring_seen begin.args.b (region begin).coordinates from n ≡ ring begin.args.b (region begin) c.loop-r.r)
       c.start_of.ensures c.size_of.ensures refl
 
-  tiles-then : bit_or c.loop-r.set c.ring_seen-p.result.set ≡ tiles begin.args.b (region begin) (c.loop-r.r + 1)
-  tiles-then = tiles-next begin.args.b (region begin) c.loop-r.r c.loop-r.set c.ring_seen-p.result c.loop-r.invariant.1 ring-is
+  tiles_then : bit_or c.loop-r.set c.ring_seen-p.result.set ≡ tiles begin.args.b (region begin) (c.loop-r.r + 1)
+  tiles_then = tiles_next begin.args.b (region begin) c.loop-r.r c.loop-r.set c.ring_seen-p.result c.loop-r.invariant.1 ring_is
 
-  count-then : c.loop-r.pieces + c.ring_seen-p.result.pieces ≡ count begin.args.b (region begin) (c.loop-r.r + 1)
-  count-then = count_next begin.args.b (region begin) c.loop-r.r c.loop-r.pieces c.ring_seen-p.result c.loop-r.invariant.2 ring-is
+  count_then : c.loop-r.pieces + c.ring_seen-p.result.pieces ≡ count begin.args.b (region begin) (c.loop-r.r + 1)
+  count_then = count_next begin.args.b (region begin) c.loop-r.r c.loop-r.pieces c.ring_seen-p.result c.loop-r.invariant.2 ring_is
 
 pub overflow_add-pieces : goal.overflow_add-pieces
 overflow_add-pieces c =
     let at = (goal.at.overflow_add-pieces c).After-ring_seen-p in
     let s = begin at in
-    record { fits = omega (arith, count-then at, count_small s.args.b (region s) c.requires.2 (c.loop-r.r + 1) (omega (arith, c.loop-r-test.true))) }
+    record { fits = omega (arith, count_then at, count_small s.args.b (region s) c.requires.2 (c.loop-r.r + 1) (omega (arith, c.loop-r-test.true))) }
 
 pub loop-r-smaller : goal.loop-r-smaller
 loop-r-smaller c = omega (arith, c.loop-r-test.true)
@@ -114,9 +114,9 @@ loop-r-smaller c = omega (arith, c.loop-r-test.true)
 pub loop-r-preserved : goal.loop-r-preserved
 loop-r-preserved c =
     let s = (goal.at.loop-r-preserved c).After-ring_seen-p in
-    (omega (arith, c.loop-r-test.true), tiles-then s, count-then s)
+    (omega (arith, c.loop-r-test.true), tiles_then s, count_then s)
 
 pub returns : goal.returns
 returns c =
     let l = c.loop-r in
-    all-rings c.args.b (region (goal.at.returns c).Start) l.r l.set l.pieces (omega (arith, l.invariant.0, c.loop-r-test.false)) l.invariant.1 l.invariant.2
+    all_rings c.args.b (region (goal.at.returns c).Start) l.r l.set l.pieces (omega (arith, l.invariant.0, c.loop-r-test.false)) l.invariant.1 l.invariant.2

@@ -12,15 +12,15 @@ module _ (c : After-lines_up_to-to_row) where
   abbrev count : ℕ → ℕ → ℕ
   count column row = 3 * column + row
 
-  from-sides : let a = c.args in
+  from_sides : let a = c.args in
       count c.lines_before-column.result c.lines_before-row.result
       ≡ count (lines_before a.b.west a.b.east a.own.west) (lines_before a.b.south a.b.north a.own.south)
-  from-sides = ap₂ count c.lines_before-column.ensures.0 c.lines_before-row.ensures.0
+  from_sides = ap₂ count c.lines_before-column.ensures.0 c.lines_before-row.ensures.0
 
-  to-sides : let a = c.args in
+  to_sides : let a = c.args in
       count c.lines_up_to-to_column.result c.lines_up_to-to_row.result
       ≡ count (lines_up_to a.b.west a.b.east a.own.east) (lines_up_to a.b.south a.b.north a.own.north)
-  to-sides = ap₂ count c.lines_up_to-to_column.ensures.0 c.lines_up_to-to_row.ensures.0
+  to_sides = ap₂ count c.lines_up_to-to_column.ensures.0 c.lines_up_to-to_row.ensures.0
 
 pub overflow_mul-column : goal.overflow_mul-column
 overflow_mul-column c = record { fits = omega (arith, c.lines_before-column.ensures.1) }
@@ -38,7 +38,7 @@ pub returns-then-column-row : goal.returns-then-column-row
 unfolding tile_around
 returns-then-column-row c =
     let s = (goal.at.returns-then-column-row c).After-lines_up_to-to_row in
-    (simp (ne_eqb _ _ (λ q. c.if-column-row.true (from-sides s ∙ q ∙ sym (to-sides s)))), omega arith)
+    (simp (ne_eqb _ _ (λ q. c.if-column-row.true (from_sides s ∙ q ∙ sym (to_sides s)))), omega arith)
 
 pub overflow_sub-result : goal.overflow_sub-result
 overflow_sub-result c = omega (arith, c.lines_before-row.ensures.1)
@@ -52,6 +52,6 @@ returns c =
     let s = (goal.at.returns c).After-lines_up_to-to_row in
     let x = c.lines_before-column in
     let y = c.lines_before-row in (
-      ap₂ (λ (column row : ℕ). 3 * (2 - row) + column) x.ensures.0 y.ensures.0 ∙ simp (eq-eqb _ _ (sym (from-sides s) ∙ c.if-column-row.false ∙ to-sides s)),
+      ap₂ (λ (column row : ℕ). 3 * (2 - row) + column) x.ensures.0 y.ensures.0 ∙ simp (eq-eqb _ _ (sym (from_sides s) ∙ c.if-column-row.false ∙ to_sides s)),
       omega (arith, x.ensures.1),
     )

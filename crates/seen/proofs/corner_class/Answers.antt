@@ -25,19 +25,19 @@ module _ (c : After-y_of) where
   abbrev A : Point
   A = corner c.args.xs.now c.args.from c.args.k
 
-  x-is : to_z w32 (of_z w32 c.x_of.result) ≡ A.x
-  x-is = read_of _ _ c.x_of.ensures (corner_readable c.requires.1 c.requires.2).range.x
+  x_is : to_z w32 (of_z w32 c.x_of.result) ≡ A.x
+  x_is = read_of _ _ c.x_of.ensures (corner_readable c.requires.1 c.requires.2).range.x
 
-  y-is : to_z w32 (of_z w32 c.y_of.result) ≡ A.y
-  y-is = read_of _ _ c.y_of.ensures (corner_readable c.requires.1 c.requires.2).range.y
+  y_is : to_z w32 (of_z w32 c.y_of.result) ≡ A.y
+  y_is = read_of _ _ c.y_of.ensures (corner_readable c.requires.1 c.requires.2).range.y
 
 pub vertex_class-requires : goal.vertex_class-requires
 vertex_class-requires c =
     let s = (goal.at.vertex_class-requires c).After-y_of in
     let r = (corner_readable c.requires.1 c.requires.2).range in
-    (c.requires.0, rw (x-is s) r.x, rw (y-is s) r.y)
+    (c.requires.0, rw (x_is s) r.x, rw (y_is s) r.y)
 
 pub returns : goal.returns
 returns c =
     let s = (goal.at.returns c).After-y_of in
-    c.vertex_class.ensures ∙ ap₂ (λ (x y : ℤ). vertex_class c.args.c (place_of x) (place_of y)) (x-is s) (y-is s)
+    c.vertex_class.ensures ∙ ap₂ (λ (x y : ℤ). vertex_class c.args.c (place_of x) (place_of y)) (x_is s) (y_is s)

@@ -5,8 +5,8 @@ use Rattle.ring.specs.RingBox.{covers}
 use Rattle.seen.proofs.covers_box.Goals as goal
 
 -- where three tests hold the fourth decides
-last-decides : (p q r s : Bool) → p ≡ true → q ≡ true → r ≡ true → s ≡ p && (q && (r && s))
-last-decides p q r s x y z = rw (x, y, z)
+last_decides : (p q r s : Bool) → p ≡ true → q ≡ true → r ≡ true → s ≡ p && (q && (r && s))
+last_decides p q r s x y z = rw (x, y, z)
 
 pub returns-then-b-a : goal.returns-then-b-a
 unfolding covers
@@ -24,4 +24,4 @@ returns-then-a-b c =
 pub returns : goal.returns
 unfolding covers
 returns c =
-    last-decides _ _ _ _ (le-leb _ _ c.if-b-a.false) (le-leb _ _ c.if-b-a-2.false) (le-leb _ _ c.if-a-b.false)
+    last_decides _ _ _ _ (le-leb _ _ c.if-b-a.false) (le-leb _ _ c.if-b-a-2.false) (le-leb _ _ c.if-a-b.false)

@@ -46,8 +46,8 @@ module _ (c : After-edges_seen-s) where
       same_set (there_already b xs from n ((set_means (edges_have b xs from n) 9 4 (omega arith)).0 (ap (λ (s : Seen). bit s.set 4) (sym c.edges_seen-s.ensures) ∙ h)))
 
   -- B is added
-  with-b : covers (stretch_box xs from n) b ≡ true → encloses b xs from n ≡ true → Answer (record { set = bit_or c.edges_seen-s.result.set 16; pieces = c.edges_seen-s.result.pieces })
-  with-b h i =
+  with_b : covers (stretch_box xs from n) b ≡ true → encloses b xs from n ≡ true → Answer (record { set = bit_or c.edges_seen-s.result.set 16; pieces = c.edges_seen-s.result.pieces })
+  with_b h i =
       ap (λ (s : Seen). record { set = bit_or s.set 16; pieces = s.pieces }) c.edges_seen-s.ensures
       ∙ (λ j. record { set = with_centre b xs from n (rw (h, i) refl) j; pieces = (edges_seen b xs from n).pieces })
 
@@ -89,4 +89,4 @@ returns-then-not-ring_encloses c =
 
 pub returns : goal.returns
 returns c =
-    with-b (edges (goal.at.returns c).After-covers_box-2) (covered (goal.at.returns c).After-ring_encloses) (sym c.ring_encloses.ensures ∙ c.if-not-ring_encloses.false)
+    with_b (edges (goal.at.returns c).After-covers_box-2) (covered (goal.at.returns c).After-ring_encloses) (sym c.ring_encloses.ensures ∙ c.if-not-ring_encloses.false)

@@ -48,13 +48,13 @@ module _ (c : After-found_near-in-loop-i) where
   low : i + 2 < n
   low = c.loop-i-test.true
 
-  x-found : Finds xs from n 0 i c.found_near.result
-  x-found =
+  x_found : Finds xs from n 0 i c.found_near.result
+  x_found =
       near_finds xs from n 0 i c.args.columns.now c.args.west.now c.args.east.now (omega (arith, low)) c.requires.laid.0
       c.found_near.result c.found_near.ensures
 
-  y-found : Finds xs from n 1 i c.found_near-in-loop-i.result
-  y-found =
+  y_found : Finds xs from n 1 i c.found_near-in-loop-i.result
+  y_found =
       near_finds xs from n 1 i c.args.rows.now c.args.south.now c.args.north.now (omega (arith, low)) c.requires.laid.1
       c.found_near-in-loop-i.result c.found_near-in-loop-i.ensures
 
@@ -63,7 +63,7 @@ overflow_shr-near c = omega (arith, low c, c.requires.stretch.1)
 
 pub word_meets-requires : goal.word_meets-requires
 word_meets-requires c =
-    (c.requires.stretch.0, omega arith, omega (arith, low c), near_candidates (xs c) (from c) (n c) (i c) c.found_near.result c.found_near-in-loop-i.result (x-found c) (y-found c))
+    (c.requires.stretch.0, omega arith, omega (arith, low c), near_candidates (xs c) (from c) (n c) (i c) c.found_near.result c.found_near-in-loop-i.result (x_found c) (y_found c))
 
 pub returns-then-word_meets : goal.returns-then-word_meets
 returns-then-word_meets c =

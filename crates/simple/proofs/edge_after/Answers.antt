@@ -5,25 +5,25 @@ use Rattle.simple.proofs.Round.{edge_made}
 use Rattle.simple.proofs.edge_after.Goals as goal
 use Rattle.simple.proofs.edge_after.Goals.{After-next_of-next}
 
-next-there : (c : After-next_of-next) → Readable c.args.outline.now c.next_of-next.result
-next-there c = rw c.next_of-next.ensures (after_readable c.requires.0 c.requires.1)
+next_there : (c : After-next_of-next) → Readable c.args.outline.now c.next_of-next.result
+next_there c = rw c.next_of-next.ensures (after_readable c.requires.0 c.requires.1)
 
 pub overflow_mul-next : goal.overflow_mul-next
-overflow_mul-next c = omega (arith, (next-there c).room)
+overflow_mul-next c = omega (arith, (next_there c).room)
 
 pub place_at-bx-requires : goal.place_at-bx-requires
-place_at-bx-requires c = (omega (arith, (next-there c).room), (next-there c).range.x)
+place_at-bx-requires c = (omega (arith, (next_there c).room), (next_there c).range.x)
 
 pub overflow_mul-next-2 : goal.overflow_mul-next-2
-overflow_mul-next-2 c = omega (arith, (next-there (goal.at.overflow_mul-next-2 c).After-next_of-next).room)
+overflow_mul-next-2 c = omega (arith, (next_there (goal.at.overflow_mul-next-2 c).After-next_of-next).room)
 
 pub overflow_add-next : goal.overflow_add-next
-overflow_add-next c = omega (arith, (next-there (goal.at.overflow_add-next c).After-next_of-next).room)
+overflow_add-next c = omega (arith, (next_there (goal.at.overflow_add-next c).After-next_of-next).room)
 
 pub place_at-by-requires : goal.place_at-by-requires
 place_at-by-requires c =
     let past = (goal.at.place_at-by-requires c).After-next_of-next in
-    ((next-there past).room, (next-there past).range.y)
+    ((next_there past).room, (next_there past).range.y)
 
 pub returns : goal.returns
 returns c =

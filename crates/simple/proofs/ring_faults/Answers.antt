@@ -16,13 +16,13 @@ module _ (xs : List ℤ) (from n : ℕ) (three : 3 ≤ n) (s : Scan) (e : s ≡ 
   unfolding faults_of scan_of
   made t p = let q = p ∙ sym (tangled_parts xs from n three) in λ i. record { repeated = (e i).repeated; tangled = q i; turned = (e i).turned }
 
-  folds-decide : s.folded ≡ true → true ≡ folded xs from n || meets xs from n
+  folds_decide : s.folded ≡ true → true ≡ folded xs from n || meets xs from n
   unfolding scan_of
-  folds-decide t = rw (sym (ap (λ (s : Scan). s.folded) e) ∙ t)
+  folds_decide t = rw (sym (ap (λ (s : Scan). s.folded) e) ∙ t)
 
-  search-decides : (t : Bool) → s.folded ≡ false → t ≡ meets xs from n → t ≡ folded xs from n || meets xs from n
+  search_decides : (t : Bool) → s.folded ≡ false → t ≡ meets xs from n → t ≡ folded xs from n || meets xs from n
   unfolding scan_of
-  search-decides t f p = rw (sym (ap (λ (s : Scan). s.folded) e) ∙ f) p
+  search_decides t f p = rw (sym (ap (λ (s : Scan). s.folded) e) ∙ f) p
 
 pub returns-then-s : goal.returns-then-s
 returns-then-s c =
@@ -30,7 +30,7 @@ returns-then-s c =
     let p = c.requires in
     let s = c.ring_scan-s in
     made a.outline.now a.from a.n p.1 s.result s.ensures true
-    (folds-decide a.outline.now a.from a.n p.1 s.result s.ensures c.if-s.true)
+    (folds_decide a.outline.now a.from a.n p.1 s.result s.ensures c.if-s.true)
 
 pub returns : goal.returns
 returns c =
@@ -38,4 +38,4 @@ returns c =
     let p = c.requires in
     let s = c.ring_scan-s in
     made a.outline.now a.from a.n p.1 s.result s.ensures c.ring_meets-tangled.result
-    (search-decides a.outline.now a.from a.n p.1 s.result s.ensures c.ring_meets-tangled.result c.if-s.false c.ring_meets-tangled.ensures)
+    (search_decides a.outline.now a.from a.n p.1 s.result s.ensures c.ring_meets-tangled.result c.if-s.false c.ring_meets-tangled.ensures)

@@ -48,8 +48,8 @@ module _ (c : After-edge_after-h) where
   low : k < n
   low = c.loop-k-test.true
 
-  first-placed : EdgeInPlaces c.loop-k.g
-  first-placed = rw c.loop-k.invariant.1 (edge_in_places c.requires.0 (before_lt n k low))
+  first_placed : EdgeInPlaces c.loop-k.g
+  first_placed = rw c.loop-k.invariant.1 (edge_in_places c.requires.0 (before_lt n k low))
 
   placed : EdgeInPlaces c.edge_after-h.result
   placed = rw c.edge_after-h.ensures (edge_in_places c.requires.0 low)
@@ -58,7 +58,7 @@ module _ (c : After-edge_after-h) where
   joins = goes_on xs from n k c.loop-k.g c.edge_after-h.result low c.loop-k.invariant.1 c.edge_after-h.ensures
 
 pub in_line-requires : goal.in_line-requires
-in_line-requires c = (first-placed c, placed c, (joins c).0, (joins c).1)
+in_line-requires c = (first_placed c, placed c, (joins c).0, (joins c).1)
 
 pub turn_of-sum-requires : goal.turn_of-sum-requires
 turn_of-sum-requires c = placed (goal.at.turn_of-sum-requires c).After-edge_after-h

@@ -18,18 +18,18 @@ module _ (b : List ℕ) (h : wrong_header b ≡ false) where
   parcels_wrong p = rw (h, p) refl
 
   module _ (p : wrong_parcels b ≡ false) where
-    sizes-wrong : {n : ℕ} → n ≡ first_number (sizes_number b) (parcel_count b) → n ≢ 0 → n ≡ card_number b
+    sizes_wrong : {n : ℕ} → n ≡ first_number (sizes_number b) (parcel_count b) → n ≢ 0 → n ≡ card_number b
     unfolding card_number
-    sizes-wrong e z = rw (h, p) (e ∙ sym (or_else_first (first_number (sizes_number b) (parcel_count b)) _ (λ q. z (e ∙ q))))
+    sizes_wrong e z = rw (h, p) (e ∙ sym (or_else_first (first_number (sizes_number b) (parcel_count b)) _ (λ q. z (e ∙ q))))
 
     module _ (z : first_number (sizes_number b) (parcel_count b) ≡ 0) where
-      vertices-wrong : wrong_vertices b ≡ true → 16 ≡ card_number b
+      vertices_wrong : wrong_vertices b ≡ true → 16 ≡ card_number b
       unfolding card_number
-      vertices-wrong v = rw (h, p, z, v) refl
+      vertices_wrong v = rw (h, p, z, v) refl
 
-      shapes-left : wrong_vertices b ≡ false → {n : ℕ} → n ≡ first_number (shape_number b) (parcel_count b) → n ≡ card_number b
+      shapes_left : wrong_vertices b ≡ false → {n : ℕ} → n ≡ first_number (shape_number b) (parcel_count b) → n ≡ card_number b
       unfolding card_number
-      shapes-left v e = rw (h, p, z, v) e
+      shapes_left v e = rw (h, p, z, v) e
 
 -- ---- rule 14 is kept;  and rule 15;  and rules 2 and 3
 one : (c : Else-wrong_header) → wrong_header c.args.card.now ≡ false
@@ -56,14 +56,14 @@ pub first_sizes-sizes-requires : goal.first_sizes-sizes-requires
 first_sizes-sizes-requires c = record { header = one (goal.at.first_sizes-sizes-requires c).Else-wrong_header; parcels = two (goal.at.first_sizes-sizes-requires c).Else-wrong_parcels }
 
 pub returns-then-sizes-ne0 : goal.returns-then-sizes-ne0
-returns-then-sizes-ne0 c = sizes-wrong _ (one (goal.at.returns-then-sizes-ne0 c).Else-wrong_header) (two (goal.at.returns-then-sizes-ne0 c).Else-wrong_parcels) c.first_sizes-sizes.ensures c.if-sizes-ne0.true
+returns-then-sizes-ne0 c = sizes_wrong _ (one (goal.at.returns-then-sizes-ne0 c).Else-wrong_header) (two (goal.at.returns-then-sizes-ne0 c).Else-wrong_parcels) c.first_sizes-sizes.ensures c.if-sizes-ne0.true
 
 pub wrong_vertices-requires : goal.wrong_vertices-requires
 wrong_vertices-requires c = record { header = one (goal.at.wrong_vertices-requires c).Else-wrong_header; parcels = two (goal.at.wrong_vertices-requires c).Else-wrong_parcels }
 
 pub returns-then-wrong_vertices : goal.returns-then-wrong_vertices
 returns-then-wrong_vertices c =
-    vertices-wrong _ (one (goal.at.returns-then-wrong_vertices c).Else-wrong_header) (two (goal.at.returns-then-wrong_vertices c).Else-wrong_parcels) (three (goal.at.returns-then-wrong_vertices c).Else-sizes-ne0) (sym c.wrong_vertices.ensures ∙ c.if-wrong_vertices.true)
+    vertices_wrong _ (one (goal.at.returns-then-wrong_vertices c).Else-wrong_header) (two (goal.at.returns-then-wrong_vertices c).Else-wrong_parcels) (three (goal.at.returns-then-wrong_vertices c).Else-sizes-ne0) (sym c.wrong_vertices.ensures ∙ c.if-wrong_vertices.true)
 
 pub first_shape-requires : goal.first_shape-requires
 first_shape-requires c =
@@ -71,4 +71,4 @@ first_shape-requires c =
 
 pub returns : goal.returns
 returns c =
-    shapes-left _ (one (goal.at.returns c).Else-wrong_header) (two (goal.at.returns c).Else-wrong_parcels) (three (goal.at.returns c).Else-sizes-ne0) (sym c.wrong_vertices.ensures ∙ c.if-wrong_vertices.false) c.first_shape.ensures
+    shapes_left _ (one (goal.at.returns c).Else-wrong_header) (two (goal.at.returns c).Else-wrong_parcels) (three (goal.at.returns c).Else-sizes-ne0) (sym c.wrong_vertices.ensures ∙ c.if-wrong_vertices.false) c.first_shape.ensures

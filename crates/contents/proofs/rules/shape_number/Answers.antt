@@ -16,25 +16,25 @@ use Rattle.contents.proofs.rules.shape_number.Goals.{After-read_ends-rings, Afte
 
 -- the two lists that were read: long enough, and the parcel's
 module _ (c : After-read_ends-rings) where
-  ends-within : c.read_ends-rings.result ≤ length c.read_ends-rings.new.ends
-  ends-within = omega (arith, c.read_ends-rings.ensures.value, (entry_few c.args.card.now c.requires.0.parcels c.args.k c.requires.1).1, c.read_ends-rings.auto.ends)
+  ends_within : c.read_ends-rings.result ≤ length c.read_ends-rings.new.ends
+  ends_within = omega (arith, c.read_ends-rings.ensures.value, (entry_few c.args.card.now c.requires.0.parcels c.args.k c.requires.1).1, c.read_ends-rings.auto.ends)
 
   ends_are : take (c.read_ends-rings.result - 0) (drop 0 c.read_ends-rings.new.ends) ≡ ends_at c.args.card.now c.args.k
   ends_are = ends_read c.args.card.now c.args.k _ c.read_ends-rings.ensures.value c.read_ends-rings.ensures.ends_after
 
 module _ (c : After-read_numbers-n) where
-  numbers-within : c.read_numbers-n.result ≤ length c.read_numbers-n.new.numbers
-  numbers-within =
+  numbers_within : c.read_numbers-n.result ≤ length c.read_numbers-n.new.numbers
+  numbers_within =
       omega (arith, c.read_numbers-n.ensures.value, (vertices_there c.args.card.now c.requires.0 c.args.k c.requires.1).few, c.read_numbers-n.auto.numbers)
 
   numbers_are : take (c.read_numbers-n.result - 0) (drop 0 c.read_numbers-n.new.numbers) ≡ numbers_at c.args.card.now c.args.k
   numbers_are = numbers_read c.args.card.now c.args.k _ c.read_numbers-n.ensures.value c.read_numbers-n.ensures.numbers_after
 
 pub slice_bounds-check_shape-end : goal.slice_bounds-check_shape-end
-slice_bounds-check_shape-end c = numbers-within (goal.at.slice_bounds-check_shape-end c).After-read_numbers-n
+slice_bounds-check_shape-end c = numbers_within (goal.at.slice_bounds-check_shape-end c).After-read_numbers-n
 
 pub slice_bounds-check_shape-end-2 : goal.slice_bounds-check_shape-end-2
-slice_bounds-check_shape-end-2 c = ends-within (goal.at.slice_bounds-check_shape-end-2 c).After-read_ends-rings
+slice_bounds-check_shape-end-2 c = ends_within (goal.at.slice_bounds-check_shape-end-2 c).After-read_ends-rings
 
 pub check_shape-requires : goal.check_shape-requires
 check_shape-requires c =

@@ -23,9 +23,9 @@ module _ (b : List ℕ) (k : ℕ) {l : List ℕ} (is : l ≡ ends_at b k) {n s :
   found : s ≡ first_of (short_at (ends_at b k)) (length (ends_at b k))
   found = first ∙ ap (λ (m : List ℕ). first_of (short_at m) (length m)) is
 
-  ring-short : s < n → 2 ≡ sizes_number b k
+  ring_short : s < n → 2 ≡ sizes_number b k
   unfolding sizes_number
-  ring-short h = sym (rw ((any_means (short_at (ends_at b k)) (length (ends_at b k))).1 (_, low, first_passes _ _ low)) refl)
+  ring_short h = sym (rw ((any_means (short_at (ends_at b k)) (length (ends_at b k))).1 (_, low, first_passes _ _ low)) refl)
     where
       low : first_of (short_at (ends_at b k)) (length (ends_at b k)) < length (ends_at b k)
       low = omega (arith, rings, found)
@@ -34,13 +34,13 @@ module _ (b : List ℕ) (k : ℕ) {l : List ℕ} (is : l ≡ ends_at b k) {n s :
     none_short : any_to (short_at (ends_at b k)) (length (ends_at b k)) ≡ false
     none_short = any_none (short_at (ends_at b k)) (length (ends_at b k)) (λ r h. first_below (short_at (ends_at b k)) (length (ends_at b k)) r (omega (arith, rings, found)))
 
-    many-vertices : most_vertices < v → 3 ≡ sizes_number b k
+    many_vertices : most_vertices < v → 3 ≡ sizes_number b k
     unfolding sizes_number
-    many-vertices h = sym (rw (none_short, lt-ltb most_vertices (last_end (ends_at b k)) (rw (last ∙ ap last_end is) at h)) refl)
+    many_vertices h = sym (rw (none_short, lt-ltb most_vertices (last_end (ends_at b k)) (rw (last ∙ ap last_end is) at h)) refl)
 
-    sizes-right : v ≤ most_vertices → 0 ≡ sizes_number b k
+    sizes_right : v ≤ most_vertices → 0 ≡ sizes_number b k
     unfolding sizes_number
-    sizes-right h = sym (rw (none_short, le-ltb most_vertices (last_end (ends_at b k)) (rw (last ∙ ap last_end is) at h)) refl)
+    sizes_right h = sym (rw (none_short, le-ltb most_vertices (last_end (ends_at b k)) (rw (last ∙ ap last_end is) at h)) refl)
 
 -- the list that was read: long enough, and the parcel's
 module _ (c : After-read_ends-n) where
@@ -55,15 +55,15 @@ slice_bounds-first_short-end c = within (goal.at.slice_bounds-first_short-end c)
 
 pub returns-then-first_short-n : goal.returns-then-first_short-n
 returns-then-first_short-n c =
-    ring-short _ _ (read (goal.at.returns-then-first_short-n c).After-read_ends-n) c.read_ends-n.ensures.value c.first_short.ensures c.if-first_short-n.true
+    ring_short _ _ (read (goal.at.returns-then-first_short-n c).After-read_ends-n) c.read_ends-n.ensures.value c.first_short.ensures c.if-first_short-n.true
 
 pub slice_bounds-last_end-end : goal.slice_bounds-last_end-end
 slice_bounds-last_end-end c = within (goal.at.slice_bounds-last_end-end c).After-read_ends-n
 
 pub returns-then-last_end-gt-MOST_VERTICES : goal.returns-then-last_end-gt-MOST_VERTICES
 returns-then-last_end-gt-MOST_VERTICES c =
-    many-vertices _ _ (read (goal.at.returns-then-last_end-gt-MOST_VERTICES c).After-read_ends-n) c.read_ends-n.ensures.value c.first_short.ensures c.if-first_short-n.false c.last_end.ensures c.if-last_end-gt-MOST_VERTICES.true
+    many_vertices _ _ (read (goal.at.returns-then-last_end-gt-MOST_VERTICES c).After-read_ends-n) c.read_ends-n.ensures.value c.first_short.ensures c.if-first_short-n.false c.last_end.ensures c.if-last_end-gt-MOST_VERTICES.true
 
 pub returns : goal.returns
 returns c =
-    sizes-right _ _ (read (goal.at.returns c).After-read_ends-n) c.read_ends-n.ensures.value c.first_short.ensures c.if-first_short-n.false c.last_end.ensures c.if-last_end-gt-MOST_VERTICES.false
+    sizes_right _ _ (read (goal.at.returns c).After-read_ends-n) c.read_ends-n.ensures.value c.first_short.ensures c.if-first_short-n.false c.last_end.ensures c.if-last_end-gt-MOST_VERTICES.false

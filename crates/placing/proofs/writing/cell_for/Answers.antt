@@ -33,20 +33,20 @@ module _ (c : Else-is_empty-2) where
   abbrev second : Region
   second = region_in c.args.xs.now c.args.records.now c.args.reference
 
-  first-there : empty_in c.args.records.now c.args.primary ≡ false
-  first-there = sym c.is_empty.ensures ∙ c.if-is_empty.false
+  first_there : empty_in c.args.records.now c.args.primary ≡ false
+  first_there = sym c.is_empty.ensures ∙ c.if-is_empty.false
 
-  second-there : empty_in c.args.records.now c.args.reference ≡ false
-  second-there = sym c.is_empty-2.ensures ∙ c.if-is_empty-2.false
+  second_there : empty_in c.args.records.now c.args.reference ≡ false
+  second_there = sym c.is_empty-2.ensures ∙ c.if-is_empty-2.false
 
-  first-keeps : Keeps 4 first
-  first-keeps = there_keeps _ _ c.requires.0 _ c.requires.2 first-there
+  first_keeps : Keeps 4 first
+  first_keeps = there_keeps _ _ c.requires.0 _ c.requires.2 first_there
 
-  second-keeps : Keeps 4 second
-  second-keeps = there_keeps _ _ c.requires.0 _ c.requires.3 second-there
+  second_keeps : Keeps 4 second
+  second_keeps = there_keeps _ _ c.requires.0 _ c.requires.3 second_there
 
 pub returns-then-primary-reference : goal.returns-then-primary-reference
-returns-then-primary-reference c = self _ _ _ _ (first-there (goal.at.returns-then-primary-reference c).Else-is_empty-2) (second-there (goal.at.returns-then-primary-reference c).Else-is_empty-2) c.if-primary-reference.true
+returns-then-primary-reference c = self _ _ _ _ (first_there (goal.at.returns-then-primary-reference c).Else-is_empty-2) (second_there (goal.at.returns-then-primary-reference c).Else-is_empty-2) c.if-primary-reference.true
 
 pub box_at-own-requires : goal.box_at-own-requires
 box_at-own-requires c = let p = c.requires in (p.1.listed, p.2)
@@ -67,8 +67,8 @@ module _ (c : After-ends_at-ends) where
       c.box_at-own.ensures
       ∙ c.requires.1.each _ c.requires.2 _ (parcel_there c.args.xs.now c.args.records.now c.args.primary (sym c.is_empty.ensures ∙ c.if-is_empty.false))
 
-  box-is : c.box_at-b.result ≡ region_box (region_in c.args.xs.now c.args.records.now c.args.reference)
-  box-is =
+  box_is : c.box_at-b.result ≡ region_box (region_in c.args.xs.now c.args.records.now c.args.reference)
+  box_is =
       c.box_at-b.ensures
       ∙ c.requires.1.each _ c.requires.3 _ (parcel_there c.args.xs.now c.args.records.now c.args.reference (sym c.is_empty-2.ensures ∙ c.if-is_empty-2.false))
 
@@ -79,9 +79,9 @@ pub region_seen-seen-requires : goal.region_seen-seen-requires
 region_seen-seen-requires c =
     let e = (goal.at.region_seen-seen-requires c).Else-is_empty-2 in
     let r = (goal.at.region_seen-seen-requires c).After-ends_at-ends in (
-      subst BoxInPlaces (sym (box-is r)) (region_box_in_places (second-keeps e)),
-      subst Upright (sym (box-is r)) (region_upright (second e)),
-      subst (Keeps 4) (sym (read r)) (first-keeps e),
+      subst BoxInPlaces (sym (box_is r)) (region_box_in_places (second_keeps e)),
+      subst Upright (sym (box_is r)) (region_upright (second e)),
+      subst (Keeps 4) (sym (read r)) (first_keeps e),
       own_is r ∙ ap region_box (sym (read r)),
     )
 
@@ -89,5 +89,5 @@ pub returns : goal.returns
 returns c =
     let e = (goal.at.returns c).Else-is_empty-2 in
     let r = (goal.at.returns c).After-ends_at-ends in
-    ap (λ (s : Seen). s.set) c.region_seen-seen.ensures ∙ ap₂ (λ (k : Box) (R : Region). relation_of k R) (box-is r) (read r)
-    ∙ between _ _ _ _ (first-there e) (second-there e) c.if-primary-reference.false
+    ap (λ (s : Seen). s.set) c.region_seen-seen.ensures ∙ ap₂ (λ (k : Box) (R : Region). relation_of k R) (box_is r) (read r)
+    ∙ between _ _ _ _ (first_there e) (second_there e) c.if-primary-reference.false

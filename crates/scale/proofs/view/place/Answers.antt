@@ -10,9 +10,9 @@ in_place : (z : ℤ) → in_range z ≡ true → place_of z ≡ place_in z
 unfolding place_in
 in_place z e = rw e refl
 
-out-place : (z : ℤ) → in_range z ≡ false → 0 ≡ place_in z
+out_place : (z : ℤ) → in_range z ≡ false → 0 ≡ place_in z
 unfolding place_in
-out-place z e = rw e refl
+out_place z e = rw e refl
 
 pub place_of-requires : goal.place_of-requires
 place_of-requires c = sym c.in_range.ensures ∙ c.if-in_range.true
@@ -23,4 +23,4 @@ returns-then-in_range c =
     c.place_of.ensures ∙ ap place_of z ∙ in_place c.args.c (sym (ap in_range z) ∙ sym c.in_range.ensures ∙ c.if-in_range.true)
 
 pub returns : goal.returns
-returns c = out-place c.args.c (sym (ap in_range (to_z-of_z c.ranges.c)) ∙ sym c.in_range.ensures ∙ c.if-in_range.false)
+returns c = out_place c.args.c (sym (ap in_range (to_z-of_z c.ranges.c)) ∙ sym c.in_range.ensures ∙ c.if-in_range.false)

@@ -9,8 +9,8 @@ use Rattle.writing.proofs.steps.put_card.Goals as goal
 use Rattle.writing.proofs.steps.put_card.Goals.{Start}
 
 module _ (s : Start) where
-  may-count : Countable s.args.records.now
-  may-count = countable s.args.xs.now s.args.records.now s.requires.1
+  may_count : Countable s.args.records.now
+  may_count = countable s.args.xs.now s.args.records.now s.requires.1
 
   room : parcels_at + length (entries_of s.args.records.now) + length (ends_of s.args.records.now) + length (vertices_of s.args.xs.now s.args.records.now) ≤ length s.args.b.now
   room = omega (arith, s.requires.2, card_room s.args.xs.now s.args.records.now s.requires.1)
@@ -22,11 +22,11 @@ put_header-requires c =
 
 pub put_entries-rings_at-requires : goal.put_entries-rings_at-requires
 put_entries-rings_at-requires c =
-    (may-count (goal.at.put_entries-rings_at-requires c).Start, omega (arith, c.put_header.auto.b, room (goal.at.put_entries-rings_at-requires c).Start))
+    (may_count (goal.at.put_entries-rings_at-requires c).Start, omega (arith, c.put_header.auto.b, room (goal.at.put_entries-rings_at-requires c).Start))
 
 pub put_ends-vertices_at-requires : goal.put_ends-vertices_at-requires
 put_ends-vertices_at-requires c =
-    (may-count (goal.at.put_ends-vertices_at-requires c).Start, omega (arith, c.put_entries-rings_at.auto.b, c.put_entries-rings_at.ensures.value, c.put_header.auto.b, room (goal.at.put_ends-vertices_at-requires c).Start))
+    (may_count (goal.at.put_ends-vertices_at-requires c).Start, omega (arith, c.put_entries-rings_at.auto.b, c.put_entries-rings_at.ensures.value, c.put_header.auto.b, room (goal.at.put_ends-vertices_at-requires c).Start))
 
 pub put_vertices-requires : goal.put_vertices-requires
 put_vertices-requires c =
