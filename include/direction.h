@@ -139,11 +139,11 @@ static inline unsigned direction_word(const uint8_t *report, unsigned place)
  *   A parcel is all that its rings enclose together; they may touch and overlap. A ring is never a hole: a hole turned clockwise would be
  *   filled. A field with a hole is drawn as rings that lie round the hole.
  *
- * Where the numbers above come from, of the archive as rt makes it. Stack: 3,704 bytes, added up from its code (tools/host-stack): it has no
+ * Where the numbers above come from, of the archive as rt makes it. Stack: 4,048 bytes, added up from its code (tools/host-stack): it has no
  * recursion and no frame of variable size, so its deepest chain of calls tells what any card can take. Seen in runs (tools/host-cost.c):
- * 3,456 bytes, the most over 2,001 cards, the 2,000 good and bad ones that `independent cards 2000 1` makes and examples/two-parcels.card,
+ * 4,032 bytes, the most over 2,001 cards, the 2,000 good and bad ones that `independent cards 2000 1` makes and examples/two-parcels.card,
  * with the memcpy and memset of the C library that rt's programs run with; another card may take more, up to the first number. Code and
- * constants: 24,470 bytes (readelf). The gate (.ci/run) takes all three again and holds them to the sizes above.
+ * constants: 21,732 bytes (readelf). The gate (.ci/run) takes all three again and holds them to the sizes above.
  *
  * Instructions: some 5,698,000 on a card of 32 parcels, each a spiral that stands on its corner, the last one turned round: all are checked, and
  * then the card is refused with 7. Some 652,000 on a card of two such spirals, which is answered. Counted by valgrind's callgrind

@@ -21,8 +21,8 @@ use Rattle.plane.proofs.Lists.{tab_same}
 use Rattle.region.specs.Region.{Region}
 use Rattle.region.specs.Rules.{Keeps, KeepsRules}
 use Rattle.region.specs.Check.{check_of}
-use Rattle.region.specs.declared.Checked.{Checked}
-use Rattle.region.specs.declared.Checked.TheVariants.{Accepted, Refused}
+use Rattle.region.specs.Check.{Checked}
+use Rattle.region.specs.Check.{Accepted, Refused}
 use Rattle.region.proofs.Keeps.{keeps_fewer}
 use Rattle.region.proofs.Check.{accepted_means}
 use Rattle.relation.specs.Relation.{RegionBox, RegionHas, region_box, relation_of}
@@ -37,7 +37,7 @@ use Rattle.matrix.proofs.Cells.{cell_there, cell_same}
 use Rattle.matrix.proofs.Holding.{holds_means, holds_second_means}
 use Rattle.matrix.proofs.Matrix.{value_at_lem}
 use Rattle.matrix.proofs.Meaning.{holds_where}
-use Rattle.pair.specs.declared.Answer.{Answer}
+use Rattle.pair.specs.Answer.{Answer}
 use Rattle.pair.specs.Answer.{given, pair_of, answer_of}
 use Rattle.pair.specs.Answer as pair
 use Rattle.pair.specs.Meaning.{Answered}
@@ -45,7 +45,7 @@ use Rattle.pair.proofs.Laws.{fields_are}
 use Rattle.drawing.specs.Marks.{RegionMarks}
 use Rattle.drawing.specs.Drawing.{region_marks, drawn_value, drawn_cells}
 use Rattle.drawing.proofs.Drawing.{Roomy, cell_lines, cell_is, cell_in_range, cell_roomy, region_marks_means}
-use Rattle.drawn.specs.declared.DrawnMatrix.{DrawnMatrix}
+use Rattle.drawn.specs.Drawn.{DrawnMatrix}
 use Rattle.drawn.specs.Drawn.{drawn_for, drawn_of}
 use Rattle.drawn.specs.Drawn as drawn
 use Rattle.agree.proofs.Cells.{cell_agrees}

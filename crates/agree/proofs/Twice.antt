@@ -23,7 +23,7 @@ use Rattle.ring.specs.Enclosed.{eastward, crosses_at, encloses_at}
 use Rattle.ring.specs.RingTiles.{edges_have, ring_has}
 use Rattle.region.specs.Region.{Region, region_of}
 use Rattle.region.specs.Check.{short_at, outside_in, breaks_at, first_breaking, shape_of, check_of}
-use Rattle.region.specs.declared.Checked.TheVariants.{Refused}
+use Rattle.region.specs.Check.{Refused}
 use Rattle.relation.specs.Relation.{region_box, region_has, relation_of}
 use Rattle.matrix.specs.Holding.{insert, lines_of, cell_at, range_of, holds}
 use Rattle.matrix.specs.Kept.{grid_of, cell_in}

@@ -1,7 +1,5 @@
-// What a request comes to, and how answers are written and sent.
+// What a request comes to, and the page on which answers are written and sent.
 #![tactic(auto)]
-
-pub mod fronts;
 
 use words::{LINE_FEED, SPACE};
 
@@ -11,91 +9,121 @@ pub const BEFORE: u8 = 0xa5;
 // The same of a list of numbers.
 pub const BEFORE_NUMBER: u16 = 0xa5a5;
 
-const NO_BYTES: u8 = 45;
+const NO_BYTES: u8 = b'-';
 
-// What a request comes to: an answer that is written up to this place, without its line feed; a number, two numbers or `ok` that is still
-// to be written; or the line is none of the forms.
+// The bytes that a page has.
+const PAGE: usize = 131072;
+// From here on what is written is sent before the next answer: any answer has room behind it.
+const MUCH: usize = 32768;
+
+// What a request comes to: an answer that stands on the page, without its line feed; or a number, two numbers or `ok` that is still to be
+// written. A line that is none of the forms comes to nothing.
 #[derive(Clone, Copy)]
 pub enum Reply {
-    Upto(usize),
+    Written,
     Number(u16),
     Numbers(u16, u16),
     Ok,
-    Bad,
 }
 
-// The end of an answer that starts at `at`; `?` for a line that is none of the forms.
-pub fn finish(reply: Reply, out: &mut [u8], at: usize) -> usize {
-    match reply {
-        Reply::Upto(end) => words::put_byte(out, end, LINE_FEED),
-        Reply::Number(n) => finish_number(out, at, n),
-        Reply::Numbers(n, more) => finish_numbers(out, at, n, more),
-        Reply::Ok => words::put_text(out, at, b"ok\n"),
-        Reply::Bad => words::put_text(out, at, b"?\n"),
+// The answers that are not sent yet: the bytes up to `at`, of which the last answer begins at `start`. What has no room is not written.
+#[derive(Drop)]
+pub struct Page {
+    bytes: [u8; PAGE],
+    start: usize,
+    at: usize,
+}
+
+impl Page {
+    pub fn new() -> Page {
+        Page {
+            bytes: [0; PAGE],
+            start: 0,
+            at: 0,
+        }
+    }
+
+    // Begins an answer, with room for it: what is written is sent first, if that is much.
+    pub fn begin(&mut self, to: &impl Print) {
+        if MUCH <= self.at {
+            self.send(to);
+        }
+        self.start = self.at;
+    }
+
+    // Ends the answer, which is `?` for a line that is none of the forms.
+    pub fn finish(&mut self, reply: Option<Reply>) {
+        match reply {
+            Some(Reply::Written) => {}
+            Some(Reply::Number(number)) => self.put_natural(u64::from(number)),
+            Some(Reply::Numbers(number, more)) => {
+                self.put_natural(u64::from(number));
+                self.put_number(u64::from(more));
+            }
+            Some(Reply::Ok) => self.put_text(b"ok"),
+            None => {
+                self.at = self.start;
+                self.put_text(b"?");
+            }
+        }
+        self.put_byte(LINE_FEED);
+    }
+
+    // Sends what is written. Nothing is told where it could not be sent.
+    pub fn send(&mut self, to: &impl Print) {
+        let _ = to.write_all(front(&self.bytes, self.at));
+        self.at = 0;
+    }
+
+    pub fn put_text(&mut self, text: &[u8]) {
+        self.at = words::put_text(&mut self.bytes, self.at, text);
+    }
+
+    pub fn put_byte(&mut self, byte: u8) {
+        self.at = words::put_byte(&mut self.bytes, self.at, byte);
+    }
+
+    pub fn put_natural(&mut self, value: u64) {
+        self.at = words::put_natural(&mut self.bytes, self.at, value);
+    }
+
+    pub fn put_integer(&mut self, value: i32) {
+        self.at = words::put_integer(&mut self.bytes, self.at, value);
+    }
+
+    // A space, unless the answer begins here.
+    pub fn put_gap(&mut self) {
+        if self.at != self.start {
+            self.put_byte(SPACE);
+        }
+    }
+
+    // A number after a space.
+    pub fn put_number(&mut self, number: u64) {
+        self.put_byte(SPACE);
+        self.put_natural(number);
+    }
+
+    // Each number after a space.
+    pub fn put_numbers<T: Copy + Into<u64>>(&mut self, numbers: &[T]) {
+        for number in numbers {
+            self.put_number((*number).into());
+        }
+    }
+
+    // Bytes as one word, after a space.
+    pub fn put_bytes(&mut self, bytes: &[u8]) {
+        self.put_byte(SPACE);
+        if bytes.is_empty() {
+            self.put_byte(NO_BYTES);
+        }
+        for byte in bytes {
+            self.at = words::put_hex(&mut self.bytes, self.at, *byte);
+        }
     }
 }
 
-fn finish_number(out: &mut [u8], at: usize, number: u16) -> usize {
-    let next = words::put_natural(out, at, number as u64);
-    words::put_byte(out, next, LINE_FEED)
-}
-
-fn finish_numbers(out: &mut [u8], at: usize, number: u16, more: u16) -> usize {
-    let next = words::put_natural(out, at, number as u64);
-    let next = put_number(out, next, more as u64);
-    words::put_byte(out, next, LINE_FEED)
-}
-
-// Each number after a space.
-pub fn put_numbers(out: &mut [u8], from: usize, numbers: &[u16]) -> usize {
-    let mut at = from;
-    let mut i = 0;
-    while i < numbers.len() {
-        at = put_number(out, at, wide(numbers[i]));
-        i += 1;
-    }
-    at
-}
-
-fn wide(number: u16) -> u64 {
-    number as u64
-}
-
-// A number after a space.
-pub fn put_number(out: &mut [u8], at: usize, number: u64) -> usize {
-    let next = words::put_byte(out, at, SPACE);
-    words::put_natural(out, next, number)
-}
-
-// Bytes as one word, after a space.
-pub fn put_bytes(out: &mut [u8], at: usize, bytes: &[u8]) -> usize {
-    let next = words::put_byte(out, at, SPACE);
-    if bytes.len() == 0 {
-        return words::put_byte(out, next, NO_BYTES);
-    }
-    put_digits(out, next, bytes)
-}
-
-fn put_digits(out: &mut [u8], from: usize, bytes: &[u8]) -> usize {
-    let mut at = from;
-    let mut i = 0;
-    while i < bytes.len() {
-        at = words::put_hex(out, at, bytes[i]);
-        i += 1;
-    }
-    at
-}
-
-// Sends what is written up to `at` if that is much, and answers where to write on.
-pub fn room(to: &impl Print, out: &[u8], at: usize, much: usize) -> usize {
-    if at < much {
-        return at;
-    }
-    send(to, out, at);
-    0
-}
-
-// Nothing is told where it could not be sent.
-pub fn send(to: &impl Print, out: &[u8], at: usize) {
-    let _ = to.write_all(fronts::bytes(out, at));
+// The first values of a list, or all of it where it has fewer.
+pub fn front<T>(list: &[T], count: usize) -> &[T] {
+    &list[..count.min(list.len())]
 }

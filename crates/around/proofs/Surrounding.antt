@@ -26,7 +26,7 @@ use Rattle.relation.proofs.Regions.{region_box_there, region_box_is}
 use Rattle.relation.proofs.Spread.{wide, high}
 use Rattle.pin.specs.Reaches.{Reaches}
 use Rattle.pin.proofs.Reaches.{round_reaches, within_middle}
-use Rattle.pair.specs.declared.Answer.{Answer}
+use Rattle.pair.specs.Answer.{Answer}
 use Rattle.pair.specs.Answer.{given, pair_of}
 use Rattle.pair.specs.Meaning.{Answered, RefusedPair}
 use Rattle.pair.proofs.Laws.{four, fields_are, tile_means, back_tile_means, number_means}

@@ -7,7 +7,7 @@ use Rattle.std.specs.Prelude.{◌≡◌, ◌↔◌, ◌≢◌, Bool, ◌&&◌, �
 use Rattle.plane.specs.Points.{Lines}
 use Rattle.region.specs.Region.{Region}
 use Rattle.relation.specs.Relation.{RegionHas}
-use Rattle.pair.specs.declared.Answer.{Answer}
+use Rattle.pair.specs.Answer.{Answer}
 
 pub record Surrounds (first second : Region) (L M : Lines) : Type 0 where
   pub all_but_middle : (k : ℕ) → k < 9 → RegionHas M first k ↔ (k ≢ 4)

@@ -2,6 +2,7 @@
 #![tactic(auto)]
 
 ghost use Rattle.std.specs.Prelude.{◌≡◌};
+ghost use Rattle.pair.specs.Answer.{answer_with};
 ghost use Rattle.around.specs.Around.{around_of};
 
 use pair::Answer;
@@ -14,7 +15,7 @@ const MIDDLE: u16 = 16;
 // Is the first region around the second? It lies in all eight tiles round the second's box and not in the box; the second lies in the first's box
 // and nowhere else.
 pub fn around(a: Answer) -> bool
-    ensures { result ≡ around_of a }
+    ensures { result ≡ around_of (answer_with a) }
 {
     a.first == EIGHT && a.second == MIDDLE
 }

@@ -1,4 +1,5 @@
 -- The bands of a ring's ends, from those of its vertices: behind the last vertex the first stands once more.
+--   length_bands    the list so made is as long as it was
 --   banded    the list so made has the bands of each edge's ends
 use mathlib.Core.Path.{◌≡◌, sym, ◌∙◌, ap}
 use mathlib.Core.List.{List}
@@ -6,7 +7,7 @@ use Prim.Native.Nat.{ℕ, ◌+◌, ◌≤◌, ◌<◌}
 use native.Mathlib.Omega.{arith}
 use native.Mathlib.Nat.{lt_irrefl}
 use native.Mathlib.Decide.{ℕ_discrete}
-use lib.ListN.{length, get_or, set}
+use lib.ListN.{length, get_or, set, length-set}
 use lib.Seq.{get_or-set_same, get_or-set_other}
 use lib.IntN.{ℤ}
 use Rattle.plane.specs.Points.{Point}
@@ -47,12 +48,16 @@ module _ (xs : List ℤ) (from n axis low shift : ℕ) (l : List ℕ) (some : 0 
             | no e ↦ (let q : v < n = omega arith in omega (arith, inner v q, fit.few v q))
           ]
 
-module _ (xs : List ℤ) (from n axis low shift : ℕ) (s : List ℕ) (some : 0 < n) (room : n < length s) where
+module _ (xs : List ℤ) (from n axis low shift : ℕ) (s : List ℕ) where
   abbrev band_at : ℕ → ℕ
   band_at k = band_of low shift (place_in axis (corner xs from k))
 
-  pub banded : Fitting xs from n axis low shift → Banded xs from n axis low shift (bands_of xs from n axis low shift s)
+  pub length_bands : length (bands_of xs from n axis low shift s) ≡ length s
   unfolding bands_of
-  banded fit =
+  length_bands = let t = stores (λ k. k) band_at n s in length-set t n (get_or t 0 0) ∙ length_stores (λ k. k) band_at n s
+
+  pub banded : 0 < n → n < length s → Fitting xs from n axis low shift → Banded xs from n axis low shift (bands_of xs from n axis low shift s)
+  unfolding bands_of
+  banded some room fit =
       closed_bands xs from n axis low shift (stores (λ k. k) band_at n s) some (omega (arith, length_stores (λ k. k) band_at n s)) fit
       (λ k h. stores_at (λ k. k) band_at 0 n k s h (omega arith) (λ m x y z. lt_irrefl k (omega arith)))

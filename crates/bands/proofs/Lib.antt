@@ -1,5 +1,5 @@
 pub mod Bits
-mod Axis
+mod Places
 mod Shift
 mod Gather
 mod Banded

@@ -1,11 +1,12 @@
 -- The edges marked in the bands of their ends, vertex by vertex.
---   marks_more     one vertex more, as the loop goes to vertex i
+--   marks_more     one vertex more, the end of the edges e and e + 1
 --   marked         after all vertices word t(b) has every edge with an end in band b
 use mathlib.Core.Path.{◌≡◌, refl, ◌∙◌, ap}
 use mathlib.Core.List.{List}
-use Prim.Native.Nat.{ℕ, zero, suc, ◌+◌, ◌-◌, ◌*◌, ◌%◌, ◌^◌, ◌≤◌, ◌<◌}
+use Prim.Native.Nat.{ℕ, zero, suc, ◌+◌, ◌*◌, ◌%◌, ◌^◌, ◌≤◌, ◌<◌}
 use native.Mathlib.Omega.{arith}
 use native.Mathlib.Decide.{ℕ_discrete}
+use native.Mathlib.Numerals.{add-one}
 use lib.ListN.{length, get_or, set, length-set}
 use lib.Seq.{get_or-set_same, get_or-set_other}
 use lib.Bits.{bit_or}
@@ -15,17 +16,13 @@ use Rattle.bands.specs.Bands.{bands, most_edges, mark_at, marks_of}
 use Rattle.bands.proofs.Bits.{or_left, or_right, pair_has}
 
 module _ (s : List ℕ) where
-  before_suc : (k : ℕ) → suc k - 1 ≡ k
-  before_suc k = omega arith
-
-  after_suc : (k : ℕ) → suc k + 1 - 1 ≡ suc k
-  after_suc k = omega arith
-
-  pub marks_more : (i : ℕ) (t u : List ℕ) → 0 < i → u ≡ turns (mark_at s) (i - 1) t
-      → set u (get_or s i 0) (bit_or (get_or u (get_or s i 0) 0) (3 * 2 ^ (i - 1) % 2 ^ 64)) ≡ turns (mark_at s) (i + 1 - 1) t
+  turns_next : (e : ℕ) (t : List ℕ) → mark_at s e (turns (mark_at s) e t) ≡ turns (mark_at s) (suc e) t
   unfolding turns
-  marks_more zero t u h e = absurd (omega arith)
-  marks_more (suc k) t u h e = rw (after_suc k, before_suc k) (ap (mark_at s k) (rw (before_suc k) at e))
+  turns_next e t = refl
+
+  pub marks_more : (e : ℕ) (t u : List ℕ) → u ≡ turns (mark_at s) e t
+      → set u (get_or s (e + 1) 0) (bit_or (get_or u (get_or s (e + 1) 0) 0) (3 * 2 ^ e % 2 ^ 64)) ≡ turns (mark_at s) (e + 1) t
+  marks_more e t u p = rw (add-one e) (ap (mark_at s e) p ∙ turns_next e t)
 
   length_marks : (k : ℕ) (t : List ℕ) → length (turns (mark_at s) k t) ≡ length t
   unfolding turns

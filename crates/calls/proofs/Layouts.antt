@@ -10,7 +10,8 @@ use native.Mathlib.Decide.{ℕ_discrete, dec_lt}
 use borrow.Author.Tests.{eq-eqb, ne_eqb}
 use Rattle.region.specs.Region.{Region, Parcel, nothing, outline}
 use Rattle.region.specs.Rules.{KeepsRules}
-use Rattle.region.specs.Refusals.{number_if, slot_empty}
+use Rattle.region.specs.declared.refusals.Refusal.TheVariants.{SlotEmpty}
+use Rattle.region.specs.Refusals.{number_if}
 use Rattle.region.proofs.Check.{accepted_number}
 use Rattle.region.proofs.OrElse.{number_some}
 use Rattle.layout.specs.Sheet.{slots}
@@ -63,11 +64,11 @@ module _ (st : ℕ → Parcel) (stand : StandTogether 4 st) where
         | no l ↦ sym (remove_refused (layout st) i (λ z. no_slot i l (remove_ready (layout st) i z).change)) ∙ gone i (λ h. absurd (l h))
       ]
     where
-      number : (l : i < slots) (p : Parcel) → st i ≡ p → number_if (not (occupied p)) slot_empty ≡ remove_number (layout st) i
+      number : (l : i < slots) (p : Parcel) → st i ≡ p → number_if (not (occupied p)) SlotEmpty ≡ remove_number (layout st) i
       number l p e = remove_next (layout st) i (allowed i l) (not (occupied p)) (layout_empty st stand i l ∙ ap (λ (q : Parcel). not (occupied q)) e)
 
       look : i < slots → (p : Parcel) → st i ≡ p → remove (layout st) i ≡ layout (instead st i nothing)
-      look l nothing e = sym (remove_refused (layout st) i (λ z. number_some slot_empty (number l nothing e ∙ z))) ∙ gone i (λ h. e)
+      look l nothing e = sym (remove_refused (layout st) i (λ z. number_some SlotEmpty (number l nothing e ∙ z))) ∙ gone i (λ h. e)
       look l (outline R) e = sym (remove_done (layout st) i (sym (number l (outline R) e)) refl) ∙ layout_with st stand i nothing
 
   pub clear_layout : clear (layout st) ≡ layout (λ k. nothing)

@@ -5,13 +5,14 @@
 --   put_is, put_done, remove_done, clear_done     and what one that is not refused leaves
 use mathlib.Core.Path.{◌≡◌, sym, ap, ◌∙◌, subst}
 use mathlib.Core.Logic.{◌≢◌}
-use mathlib.Core.Bool.{Bool, true, false}
+use mathlib.Core.Bool.{Bool, false}
 use Prim.Native.Nat.{ℕ}
 use native.Mathlib.Omega.{arith}
 use borrow.Author.Tests.{eq-eqb, ne_eqb}
 use Rattle.region.specs.Region.{Region, nothing, outline}
 use Rattle.region.specs.Rules.{Keeps, KeepsRules}
-use Rattle.region.specs.Refusals.{number_if, slot_empty}
+use Rattle.region.specs.declared.refusals.Refusal.TheVariants.{SlotEmpty, SheetLists}
+use Rattle.region.specs.Refusals.{number_if}
 use Rattle.region.specs.Check.{check_of, number_of}
 use Rattle.region.proofs.Keeps.{keeps_fewer}
 use Rattle.region.proofs.OrElse.{or_else_first, or_else_next, or_else_none}
@@ -65,15 +66,15 @@ module _ (s : Sheet) (i : ℕ) (R : Region) where
 module _ (s : Sheet) (i : ℕ) where
   pub remove_ready : remove_number s i ≡ 0 → Ready s i nothing
   unfolding remove_number
-  remove_ready z = record { change = (change_means s i).0 ((or_else_none (change_number s i) (number_if (empty_in s.records i) slot_empty)).0 z).0; keeps = tt }
+  remove_ready z = record { change = (change_means s i).0 ((or_else_none (change_number s i) (number_if (empty_in s.records i) SlotEmpty)).0 z).0; keeps = tt }
 
   pub remove_first : change_number s i ≢ 0 → change_number s i ≡ remove_number s i
   unfolding remove_number
-  remove_first z = sym (or_else_first (change_number s i) (number_if (empty_in s.records i) slot_empty) z)
+  remove_first z = sym (or_else_first (change_number s i) (number_if (empty_in s.records i) SlotEmpty) z)
 
-  pub remove_next : change_number s i ≡ 0 → (t : Bool) → empty_in s.records i ≡ t → number_if t slot_empty ≡ remove_number s i
+  pub remove_next : change_number s i ≡ 0 → (t : Bool) → empty_in s.records i ≡ t → number_if t SlotEmpty ≡ remove_number s i
   unfolding remove_number
-  remove_next z t e = ap (λ (b : Bool). number_if b slot_empty) (sym e) ∙ sym (or_else_next (change_number s i) (number_if (empty_in s.records i) slot_empty) z)
+  remove_next z t e = ap (λ (b : Bool). number_if b SlotEmpty) (sym e) ∙ sym (or_else_next (change_number s i) (number_if (empty_in s.records i) SlotEmpty) z)
 
   pub remove_refused : remove_number s i ≢ 0 → s ≡ remove s i
   unfolding remove
@@ -85,9 +86,9 @@ module _ (s : Sheet) (i : ℕ) where
 
 -- ---- a clearing
 module _ (s : Sheet) where
-  pub clear_refused : wrong_lists s ≡ true → (11 ≡ clear_number s) × (s ≡ clear s)
+  pub clear_refused : {n : ℕ} → n ≢ 0 → n ≡ number_if (wrong_lists s) SheetLists → (n ≡ clear_number s) × (s ≡ clear s)
   unfolding clear clear_number
-  clear_refused w = (simp w, simp w)
+  clear_refused some e = (e, simp (ne_eqb (number_if (wrong_lists s) SheetLists) 0 (λ q. some (e ∙ q))))
 
   pub clear_done : {t : Sheet} → wrong_lists s ≡ false → t ≡ blank → (0 ≡ clear_number s) × (t ≡ clear s)
   unfolding clear clear_number

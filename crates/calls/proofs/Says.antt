@@ -13,10 +13,11 @@ use native.Mathlib.Decide.{dec_lt}
 use lib.Dec.{ltb}
 use borrow.Author.Tests.{ltb-true, ltb-false, lt-ltb, le-ltb}
 use Rattle.plane.proofs.Logic.{never, clash, is_false, is_true, or_means, eq_means, iff_join, iff_or}
-use Rattle.region.specs.declared.Checked.{Checked}
-use Rattle.region.specs.declared.Checked.TheVariants.{Accepted, Refused}
+use Rattle.region.specs.Check.{Checked}
+use Rattle.region.specs.Check.{Accepted, Refused}
 use Rattle.region.specs.Region.{Region}
-use Rattle.region.specs.Refusals.{number_if, or_else, slot_number, slot_empty, sheet_lists}
+use Rattle.region.specs.declared.refusals.Refusal.TheVariants.{SlotNumber, SlotEmpty, SheetLists}
+use Rattle.region.specs.Refusals.{number_if, or_else}
 use Rattle.region.specs.Check.{check_of, number_of}
 use Rattle.region.proofs.Check.{accepted_means, refused_means, accepted_number}
 use Rattle.layout.specs.Sheet.{Sheet, slots, last_slot, wrong_tables, wrong_lists}
@@ -117,7 +118,7 @@ module _ (s : Sheet) where
   unfolding clear_number
   clear_case = go (wrong_lists s) refl
     where
-      go : (t : Bool) → wrong_lists s ≡ t → ClearSays s (number_if t sheet_lists)
+      go : (t : Bool) → wrong_lists s ≡ t → ClearSays s (number_if t SheetLists)
       go true w = clear_refused (λ right. clash (wrong_lists s) w ((lists_mean s).1 right))
       go false w = clear_done ((lists_mean s).0 w)
 
@@ -147,7 +148,7 @@ module _ (records relations : List ℕ) (i j : ℕ) where
   bare_means = iff_join (or_means (empty_in records i) (empty_in records j)) (iff_or (eq_means (rings_in records i) 0) (eq_means (rings_in records j) 0))
 
   by_tests : (a b d : Bool) → wrong_tables records relations ≡ a → past ≡ b → bare ≡ d
-      → read_number records relations i j ≡ or_else (number_if a sheet_lists) (or_else (number_if b slot_number) (number_if d slot_empty))
+      → read_number records relations i j ≡ or_else (number_if a SheetLists) (or_else (number_if b SlotNumber) (number_if d SlotEmpty))
   unfolding read_number
   by_tests a b d ea eb ed = rw (ea, eb, ed) refl
 

@@ -1,5 +1,5 @@
 -- Laws of a list of pairs at once.
---   several_is          the number, by the tests that decide it;  several_order  11, then 18, then 10
+--   several_is, several_first    the number, by the tests that decide it; 11, where it applies;  several_order  11, then 18, then 10
 --   several_says        the number is n exactly when case n of the call holds
 --   several_tables      a call that is not refused has lists of their lengths;  several_room  and a place for each pair
 --   several_refused, several_written    the results that a refused call leaves, and one that is not
@@ -25,13 +25,13 @@ use Rattle.plane.specs.Folds.{turns}
 use Rattle.plane.specs.Lists.{stores}
 use Rattle.plane.proofs.Lists.{length_stores, stores_at, stores_other}
 use Rattle.plane.proofs.Logic.{clash, is_true}
-use Rattle.region.specs.Refusals.{number, number_if, or_else, buffer_short, slot_number, slot_empty, sheet_lists, pairs_odd}
-use Rattle.region.proofs.OrElse.{or_else_none, number_if_none}
+use Rattle.region.specs.declared.refusals.Refusal.TheVariants.{BufferShort, SlotNumber, SlotEmpty, SheetLists, PairsOdd}
+use Rattle.region.specs.Refusals.{number, number_if, or_else}
+use Rattle.region.proofs.OrElse.{or_else_first, or_else_none, number_if_none}
 use Rattle.layout.specs.Sheet.{last_slot, RightTables, wrong_tables}
 use Rattle.layout.specs.Slots.{empty_in, cell_in}
 use Rattle.layout.proofs.RightLists.{tables_mean}
-use Rattle.calls.specs.declared.Reading.{Reading}
-use Rattle.calls.specs.Readings.{read_number, reading_of, reading_number, reading_value}
+use Rattle.calls.specs.Readings.{Reading, read_number, reading_of, reading_number, reading_value}
 use Rattle.calls.specs.Several.{pair_count, odd_pairs, primary_of, reference_of, refused_from, result_of, pair_result, several_number, several}
 use Rattle.calls.specs.Says.{Readable, ReadSays, read_done, read_lists, read_slot, read_empty, SeveralSays, several_done, several_lists, several_odd, several_short}
 use Rattle.calls.proofs.Readings.{cell_answered, number_answered}
@@ -43,16 +43,20 @@ module _ (records relations pairs results : List ℕ) where
   short = ltb (length results) (pair_count pairs)
 
   pub several_is : (a b d : Bool) → wrong_tables records relations ≡ a → odd_pairs pairs ≡ b → short ≡ d
-      → several_number records relations pairs results ≡ or_else (number_if a sheet_lists) (or_else (number_if b pairs_odd) (number_if d buffer_short))
+      → several_number records relations pairs results ≡ or_else (number_if a SheetLists) (or_else (number_if b PairsOdd) (number_if d BufferShort))
   unfolding several_number
   several_is a b d ea eb ed = rw (ea, eb, ed) refl
 
+  pub several_first : {n : ℕ} → n ≢ 0 → n ≡ number_if (wrong_tables records relations) SheetLists → n ≡ several_number records relations pairs results
+  unfolding several_number
+  several_first some e = e ∙ sym (or_else_first _ _ (λ q. some (e ∙ q)))
+
   pub several_order : several_number records relations pairs results
-      ≡ pick (wrong_tables records relations) (number sheet_lists) (pick (odd_pairs pairs) (number pairs_odd) (pick short (number buffer_short) 0))
+      ≡ pick (wrong_tables records relations) (number SheetLists) (pick (odd_pairs pairs) (number PairsOdd) (pick short (number BufferShort) 0))
   unfolding several_number
   several_order = go (wrong_tables records relations) (odd_pairs pairs) short
     where
-      go : (a b d : Bool) → or_else (number_if a sheet_lists) (or_else (number_if b pairs_odd) (number_if d buffer_short)) ≡ pick a (number sheet_lists) (pick b (number pairs_odd) (pick d (number buffer_short) 0))
+      go : (a b d : Bool) → or_else (number_if a SheetLists) (or_else (number_if b PairsOdd) (number_if d BufferShort)) ≡ pick a (number SheetLists) (pick b (number PairsOdd) (pick d (number BufferShort) 0))
       go true b d = refl
       go false true d = refl
       go false false d = refl
@@ -61,14 +65,14 @@ module _ (records relations pairs results : List ℕ) where
   module _ (z : several_number records relations pairs results ≡ 0) where
     pub several_tables : RightTables records relations
     unfolding several_number
-    several_tables = (tables_mean records relations).0 ((number_if_none (wrong_tables records relations) sheet_lists).0 ((or_else_none (number_if (wrong_tables records relations) sheet_lists) _).0 z).0)
+    several_tables = (tables_mean records relations).0 ((number_if_none (wrong_tables records relations) SheetLists).0 ((or_else_none (number_if (wrong_tables records relations) SheetLists) _).0 z).0)
 
     pub several_room : pair_count pairs ≤ length results
     unfolding several_number
     several_room =
-        let p = (or_else_none (number_if (wrong_tables records relations) sheet_lists) (or_else (number_if (odd_pairs pairs) pairs_odd) (number_if short buffer_short))).0 z in
-        let q = (or_else_none (number_if (odd_pairs pairs) pairs_odd) (number_if short buffer_short)).0 p.1 in
-        ltb-false (length results) (pair_count pairs) ((number_if_none short buffer_short).0 q.1)
+        let p = (or_else_none (number_if (wrong_tables records relations) SheetLists) (or_else (number_if (odd_pairs pairs) PairsOdd) (number_if short BufferShort))).0 z in
+        let q = (or_else_none (number_if (odd_pairs pairs) PairsOdd) (number_if short BufferShort)).0 p.1 in
+        ltb-false (length results) (pair_count pairs) ((number_if_none short BufferShort).0 q.1)
 
     pub several_written : several records relations pairs results ≡ stores (λ k. k) (pair_result records relations pairs) (pair_count pairs) results
     unfolding several
@@ -114,7 +118,7 @@ module _ (records relations : List ℕ) (i j : ℕ) where
   unfolding read_number
   read_small = go (wrong_tables records relations) (ltb last_slot i || ltb last_slot j) (empty_in records i || empty_in records j)
     where
-      go : (a b d : Bool) → or_else (number_if a sheet_lists) (or_else (number_if b slot_number) (number_if d slot_empty)) ≤ 11
+      go : (a b d : Bool) → or_else (number_if a SheetLists) (or_else (number_if b SlotNumber) (number_if d SlotEmpty)) ≤ 11
       go true b d = omega arith
       go false true d = omega arith
       go false false true = omega arith

@@ -6,7 +6,8 @@
 use Rattle.std.specs.Prelude.{ℕ, eqb}
 use Rattle.plane.specs.Choice.{pick}
 use Rattle.region.specs.Region.{Region, nothing, outline}
-use Rattle.region.specs.Refusals.{number_if, or_else, slot_empty, sheet_lists}
+use Rattle.region.specs.declared.refusals.Refusal.TheVariants.{SlotEmpty, SheetLists}
+use Rattle.region.specs.Refusals.{number_if, or_else}
 use Rattle.region.specs.Check.{check_of, number_of}
 use Rattle.layout.specs.Sheet.{Sheet, wrong_lists}
 use Rattle.layout.specs.Layout.{blank}
@@ -20,13 +21,13 @@ unfoldable pub put : Sheet → ℕ → Region → Sheet
 put s i R = pick (eqb (put_number s i R) 0) (with_parcel s i (outline R)) s
 
 unfoldable pub remove_number : Sheet → ℕ → ℕ
-remove_number s i = or_else (change_number s i) (number_if (empty_in s.records i) slot_empty)
+remove_number s i = or_else (change_number s i) (number_if (empty_in s.records i) SlotEmpty)
 
 unfoldable pub remove : Sheet → ℕ → Sheet
 remove s i = pick (eqb (remove_number s i) 0) (with_parcel s i nothing) s
 
 unfoldable pub clear_number : Sheet → ℕ
-clear_number s = number_if (wrong_lists s) sheet_lists
+clear_number s = number_if (wrong_lists s) SheetLists
 
 unfoldable pub clear : Sheet → Sheet
 clear s = pick (eqb (clear_number s) 0) blank s

@@ -10,16 +10,17 @@
 use Rattle.std.specs.Prelude.{◌≡◌, ◌⊎◌, ◌≢◌, List, ℕ, ◌+◌, ◌*◌, ◌≤◌, ◌<◌, length}
 use Rattle.region.specs.Region.{Region, nothing, outline}
 use Rattle.region.specs.Rules.{KeepsRules, RefusedWith}
-use Rattle.region.specs.Refusals.{number, slot_number, slot_empty, buffer_short, sheet_lists, sheet_damaged, pairs_odd}
+use Rattle.region.specs.declared.refusals.Refusal.TheVariants.{SlotNumber, SlotEmpty, BufferShort, SheetLists, SheetDamaged, PairsOdd}
+use Rattle.region.specs.Refusals.{number}
 use Rattle.layout.specs.Sheet.{Sheet, slots, RightLists, RightTables}
 use Rattle.layout.specs.Slots.{rings_in, parcel_at}
 use Rattle.layout.specs.Damage.{Undamaged}
 use Rattle.layout.specs.Changes.{Changeable}
 
 pub data Unchangeable (s : Sheet) (i : ℕ) : ℕ → Type 0 where
-  lists_wrong : (RightLists s → ⊥) → Unchangeable s i (number sheet_lists)
-  slot_past : RightLists s → slots ≤ i → Unchangeable s i (number slot_number)
-  damage_there : RightLists s → i < slots → (Undamaged s → ⊥) → Unchangeable s i (number sheet_damaged)
+  lists_wrong : (RightLists s → ⊥) → Unchangeable s i (number SheetLists)
+  slot_past : RightLists s → slots ≤ i → Unchangeable s i (number SlotNumber)
+  damage_there : RightLists s → i < slots → (Undamaged s → ⊥) → Unchangeable s i (number SheetDamaged)
 
 pub data PutSays (s : Sheet) (i : ℕ) (R : Region) : ℕ → Type 0 where
   put_done : Changeable s i → KeepsRules R → PutSays s i R 0
@@ -29,11 +30,11 @@ pub data PutSays (s : Sheet) (i : ℕ) (R : Region) : ℕ → Type 0 where
 pub data RemoveSays (s : Sheet) (i : ℕ) : ℕ → Type 0 where
   remove_done : Changeable s i → (R : Region) → parcel_at s i ≡ outline R → RemoveSays s i 0
   remove_refused : {n : ℕ} → Unchangeable s i n → RemoveSays s i n
-  remove_empty : Changeable s i → parcel_at s i ≡ nothing → RemoveSays s i (number slot_empty)
+  remove_empty : Changeable s i → parcel_at s i ≡ nothing → RemoveSays s i (number SlotEmpty)
 
 pub data ClearSays (s : Sheet) : ℕ → Type 0 where
   clear_done : RightLists s → ClearSays s 0
-  clear_refused : (RightLists s → ⊥) → ClearSays s (number sheet_lists)
+  clear_refused : (RightLists s → ⊥) → ClearSays s (number SheetLists)
 
 pub record Readable (records relations : List ℕ) (i j : ℕ) : Type 0 where
   pub tables : RightTables records relations
@@ -44,12 +45,12 @@ pub record Readable (records relations : List ℕ) (i j : ℕ) : Type 0 where
 
 pub data ReadSays (records relations : List ℕ) (i j : ℕ) : ℕ → Type 0 where
   read_done : Readable records relations i j → ReadSays records relations i j 0
-  read_lists : (RightTables records relations → ⊥) → ReadSays records relations i j (number sheet_lists)
-  read_slot : RightTables records relations → (slots ≤ i) ⊎ (slots ≤ j) → ReadSays records relations i j (number slot_number)
-  read_empty : RightTables records relations → i < slots → j < slots → (rings_in records i ≡ 0) ⊎ (rings_in records j ≡ 0) → ReadSays records relations i j (number slot_empty)
+  read_lists : (RightTables records relations → ⊥) → ReadSays records relations i j (number SheetLists)
+  read_slot : RightTables records relations → (slots ≤ i) ⊎ (slots ≤ j) → ReadSays records relations i j (number SlotNumber)
+  read_empty : RightTables records relations → i < slots → j < slots → (rings_in records i ≡ 0) ⊎ (rings_in records j ≡ 0) → ReadSays records relations i j (number SlotEmpty)
 
 pub data SeveralSays (records relations pairs results : List ℕ) : ℕ → Type 0 where
   several_done : RightTables records relations → (n : ℕ) → length pairs ≡ 2 * n → n ≤ length results → SeveralSays records relations pairs results 0
-  several_lists : (RightTables records relations → ⊥) → SeveralSays records relations pairs results (number sheet_lists)
-  several_odd : RightTables records relations → (n : ℕ) → length pairs ≡ 2 * n + 1 → SeveralSays records relations pairs results (number pairs_odd)
-  several_short : RightTables records relations → (n : ℕ) → length pairs ≡ 2 * n → length results < n → SeveralSays records relations pairs results (number buffer_short)
+  several_lists : (RightTables records relations → ⊥) → SeveralSays records relations pairs results (number SheetLists)
+  several_odd : RightTables records relations → (n : ℕ) → length pairs ≡ 2 * n + 1 → SeveralSays records relations pairs results (number PairsOdd)
+  several_short : RightTables records relations → (n : ℕ) → length pairs ≡ 2 * n → length results < n → SeveralSays records relations pairs results (number BufferShort)

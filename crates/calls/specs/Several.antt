@@ -11,11 +11,10 @@
 use Rattle.std.specs.Prelude.{Bool, List, ℕ, ◌+◌, ◌*◌, ◌/◌, ◌%◌, ltb, eqb, length, get_or}
 use Rattle.plane.specs.Choice.{pick}
 use Rattle.plane.specs.Lists.{stores}
-use Rattle.region.specs.Refusals.{number_if, or_else, buffer_short, sheet_lists, pairs_odd}
+use Rattle.region.specs.declared.refusals.Refusal.TheVariants.{BufferShort, SheetLists, PairsOdd}
+use Rattle.region.specs.Refusals.{number_if, or_else}
 use Rattle.layout.specs.Sheet.{wrong_tables}
-use Rattle.calls.specs.declared.Reading.{Reading}
-use Rattle.calls.specs.declared.Reading.TheVariants.{Relation, Refused}
-use Rattle.calls.specs.Readings.{reading_of}
+use Rattle.calls.specs.Readings.{Reading, Relation, Refused, reading_of}
 
 abbrev pub pair_count : List ℕ → ℕ
 pair_count pairs = length pairs / 2
@@ -41,8 +40,8 @@ pair_result records relations pairs k = result_of (reading_of records relations 
 
 unfoldable pub several_number : (records relations pairs results : List ℕ) → ℕ
 several_number records relations pairs results =
-    or_else (number_if (wrong_tables records relations) sheet_lists)
-    (or_else (number_if (odd_pairs pairs) pairs_odd) (number_if (ltb (length results) (pair_count pairs)) buffer_short))
+    or_else (number_if (wrong_tables records relations) SheetLists)
+    (or_else (number_if (odd_pairs pairs) PairsOdd) (number_if (ltb (length results) (pair_count pairs)) BufferShort))
 
 unfoldable pub several : (records relations pairs results : List ℕ) → List ℕ
 several records relations pairs results =

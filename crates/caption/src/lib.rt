@@ -2,161 +2,99 @@
 #![tactic(auto)]
 
 use around::around;
-use names::put_set;
+use names::{DIRECTIONS_MIDDLE, TILES_MIDDLE, put_set};
 use pair::Answer;
 use scale::view::{View, bottom};
-use svg::form::{put_form, row_in};
-use words::put_text;
+use svg::Page;
 
-// Bit 4 is written B in tiles, and O in directions.
-const TILES_MIDDLE: u8 = 66;
+// The longest set in words, and the space behind it.
+const WORDS_ROOM: usize = 28;
 
-const DIRECTIONS_MIDDLE: u8 = 79;
+// By the value of a cell: white, the colour of one parcel, of the other, or what both make together.
+const GROUNDS: [&str; 4] = ["ffffff", "f3d08a", "abd9f4", "c9b98a"];
 
-// A set in words, where the buffer has room for the longest.
-fn put_words_of(out: &mut [u8], at: usize, middle: u8, set: u16) -> usize {
-    if out.len() < 28 {
-        return at;
-    }
-    if out.len() - 28 < at {
-        return at;
-    }
-    put_set(out, at, middle, set)
+fn put_words_of(page: &mut Page, middle: u8, set: u16) {
+    let mut words = [0u8; WORDS_ROOM];
+    let end = put_set(&mut words, 0, middle, set);
+    page.text(&words[..end]);
 }
 
 // Four lines: the two parcels, tiles, directions and pieces.
-fn put_relation(
-    out: &mut [u8],
-    from: usize,
-    v: View,
-    primary: u16,
-    reference: u16,
-    a: Answer,
-) -> usize {
+fn put_relation(page: &mut Page, v: View, primary: u16, reference: u16, a: Answer) {
     let y = bottom(v);
-    let at = put_form(
-        out,
-        from,
-        b"<text x='200' y='@' font-size='340' font-weight='bold'>Parcel @ seen from parcel @</text>\n\
-        <text x='200' y='@' >Tiles: ",
-        &[y + 1250, primary, reference, y + 1780],
+    let heading = y + 1250;
+    let tiles = y + 1780;
+    let directions = y + 2200;
+    let pieces = y + 2620;
+    let count = a.first_pieces;
+    write!(
+        page,
+        "<text x='200' y='{heading}' font-size='340' font-weight='bold'>Parcel {primary} seen from parcel {reference}</text>\n\
+        <text x='200' y='{tiles}' >Tiles: "
     );
-    let at = put_words_of(out, at, TILES_MIDDLE, a.first);
-    let at = put_form(
-        out,
-        at,
-        b"</text>\n<text x='200' y='@' >Directions: ",
-        &[y + 2200],
+    put_words_of(page, TILES_MIDDLE, a.first);
+    write!(
+        page,
+        "</text>\n<text x='200' y='{directions}' >Directions: "
     );
-    let at = put_words_of(out, at, DIRECTIONS_MIDDLE, a.directions);
-    put_form(
-        out,
-        at,
-        b"</text>\n<text x='200' y='@' >Pieces: @</text>\n",
-        &[y + 2620, a.first_pieces],
-    )
-}
-
-fn put_around(out: &mut [u8], at: usize, y: u16, primary: u16, reference: u16, a: Answer) -> usize {
-    if !around(a) {
-        return at;
-    }
-    put_form(
-        out,
-        at,
-        b"<text x='200' y='@' font-weight='bold'>Parcel @ lies around parcel @</text>\n",
-        &[y, primary, reference],
-    )
-}
-
-// A cell of the matrix with its value in the middle, on a ground that is white, has the colour of one parcel, or what both make together.
-fn put_value(out: &mut [u8], from: usize, x: u16, y: u16, value: u8) -> usize {
-    let at = put_form(
-        out,
-        from,
-        b"<rect x='@' y='@' width='560' height='560' fill='#",
-        &[x, y],
+    put_words_of(page, DIRECTIONS_MIDDLE, a.directions);
+    write!(
+        page,
+        "</text>\n<text x='200' y='{pieces}' >Pieces: {count}</text>\n"
     );
-    let at = put_text(
-        out,
-        at,
-        row_in(b"ffffff\nf3d08a\nabd9f4\nc9b98a\n", value as usize),
+}
+
+fn put_around(page: &mut Page, y: u16, primary: u16, reference: u16) {
+    write!(
+        page,
+        "<text x='200' y='{y}' font-weight='bold'>Parcel {primary} lies around parcel {reference}</text>\n"
     );
-    put_form(
-        out,
-        at,
-        b"'/>\n<text x='@' y='@' text-anchor='middle' font-size='300' stroke='none'>@</text>\n",
-        &[added(x, 280), added(y, 385), value as u16],
-    )
 }
 
-// Where so many cells from a place on end.
-fn moved(from: u16, cells: usize) -> u16 {
-    match cells {
-        0 => from,
-        1 => added(from, 560),
-        _ => added(from, 1120),
-    }
+// A cell of the matrix with its value in the middle.
+fn put_value(page: &mut Page, x: u16, y: u16, value: u8) {
+    let ground = GROUNDS.get(usize::from(value)).copied().unwrap_or("");
+    let middle = x.saturating_add(280);
+    let below = y.saturating_add(385);
+    write!(
+        page,
+        "<rect x='{x}' y='{y}' width='560' height='560' fill='#{ground}'/>\n\
+        <text x='{middle}' y='{below}' text-anchor='middle' font-size='300' stroke='none'>{value}</text>\n"
+    );
 }
 
-fn added(a: u16, b: u16) -> u16 {
-    if 60000 < a {
-        return a;
+// The cells of the matrix's own rows and columns.
+fn put_matrix(page: &mut Page, y: u16, a: Answer) {
+    write!(page, "<g stroke='#555555' stroke-width='15'>\n");
+    for row in 0..a.matrix.rows.min(3) {
+        for column in 0..a.matrix.columns.min(3) {
+            let cells = a.matrix.cells;
+            put_value(
+                page,
+                6900 + 560 * column,
+                y.saturating_add(560 * row),
+                cells[usize::from(3 * row + column)],
+            );
+        }
     }
-    if 5000 < b {
-        return a;
-    }
-    a + b
-}
-
-// Cell k of nine, by row; only those of the matrix's own rows and columns are drawn.
-fn put_cell(out: &mut [u8], at: usize, y: u16, a: Answer, k: usize) -> usize {
-    if 9 <= k {
-        return at;
-    }
-    let row = k / 3;
-    let column = k % 3;
-    if a.rows as usize <= row {
-        return at;
-    }
-    if a.columns as usize <= column {
-        return at;
-    }
-    let cells = a.cells;
-    put_value(out, at, moved(6900, column), moved(y, row), cells[k])
-}
-
-fn put_matrix(out: &mut [u8], from: usize, y: u16, a: Answer) -> usize {
-    let mut at = put_text(out, from, b"<g stroke='#555555' stroke-width='15'>\n");
-    let mut k: usize = 0;
-    while k < 9 {
-        at = put_cell(out, at, y, a, k);
-        k += 1;
-    }
-    put_text(out, at, b"</g>\n")
+    write!(page, "</g>\n");
 }
 
 // What the values of the matrix stand for.
-fn put_legend(out: &mut [u8], at: usize, y: u16, primary: u16, reference: u16) -> usize {
-    put_form(
-        out,
-        at,
-        b"<text x='7740' y='@' text-anchor='middle' font-size='240'>1: parcel @, 2: parcel @, 3: both</text>\n",
-        &[y, primary, reference],
-    )
+fn put_legend(page: &mut Page, y: u16, primary: u16, reference: u16) {
+    write!(
+        page,
+        "<text x='7740' y='{y}' text-anchor='middle' font-size='240'>1: parcel {primary}, 2: parcel {reference}, 3: both</text>\n"
+    );
 }
 
-pub fn put_answer(
-    out: &mut [u8],
-    from: usize,
-    v: View,
-    primary: u16,
-    reference: u16,
-    a: Answer,
-) -> usize {
+// The two slots are no struct: each is a number of its own in the texts, and every function would take the struct apart first.
+pub fn put_answer(page: &mut Page, v: View, primary: u16, reference: u16, a: Answer) {
     let y = bottom(v);
-    let at = put_relation(out, from, v, primary, reference, a);
-    let at = put_around(out, at, y + 3040, primary, reference, a);
-    let at = put_matrix(out, at, y + 980, a);
-    put_legend(out, at, y + 3040, primary, reference)
+    put_relation(page, v, primary, reference, a);
+    if around(a) {
+        put_around(page, y + 3040, primary, reference);
+    }
+    put_matrix(page, y + 980, a);
+    put_legend(page, y + 3040, primary, reference);
 }

@@ -6,13 +6,14 @@
 --   entry_few         each parcel has a ring and not too many, where rule 15 is kept too;  rings_there  and its ring entries are there
 --   vertices_there    its vertices are there and not too many, where rules 2, 3 and 16 are
 --   parcel_keeps      and it keeps rules 1 to 3
-use mathlib.Core.Path.{◌≡◌, sym, ◌∙◌}
+use mathlib.Core.Path.{◌≡◌, sym, ◌∙◌, ap₂}
 use mathlib.Core.List.{List, ◌++◌}
 use Prim.Native.Nat.{ℕ, zero, suc, ◌+◌, ◌-◌, ◌*◌, ◌≤◌, ◌<◌}
 use native.Mathlib.Omega.{arith}
 use native.Mathlib.Decide.{dec_lt, ℕ_discrete}
 use lib.IntN.{ℤ}
 use lib.ListN.{length, get_or, take, drop, get_or-eq_default}
+use lib.Seq.{take_at}
 use mir.Syntax.{w8}
 use mir.Val.{Fits}
 use mathlib.Core.Bool.{false}
@@ -28,7 +29,6 @@ use Rattle.card.specs.Layout.{most_card_parcels, most_card_rings, most_card_vert
 use Rattle.card.specs.Reading.{parcel_count, ring_count, count_at, first_ring, first_vertex, ends_at, numbers_at, region_at}
 use Rattle.card.specs.CardNumber.{wrong_header}
 use Rattle.card.specs.Right.{RightParcels, RightVertices}
-use Rattle.card.proofs.Filling.{front}
 use Rattle.card.proofs.Tests.{header_means, entry_means, parcels_mean, vertices_mean, sizes_mean}
 
 pub length_ends : (b : List ℕ) (k : ℕ) → length (ends_at b k) ≡ count_at b k
@@ -40,6 +40,9 @@ unfolding numbers_at
 length_numbers b k = length_tab _ (2 * last_end (ends_at b k))
 
 -- the lists that were read, as the part of their places is lent
+front : {A : Type 0} (n : ℕ) (stored l₀ : List A) {l : List A} → l ≡ stored ++ drop n l₀ → length stored ≡ n → take (n - 0) (drop 0 l) ≡ stored
+front n stored l₀ e h = let z : n - 0 ≡ n = omega arith in ap₂ take z e ∙ take_at stored (drop n l₀) n h
+
 module _ (b : List ℕ) (k : ℕ) where
   pub ends_read : {n : ℕ} {l : List ℕ} (l₀ : List ℕ) → n ≡ count_at b k → l ≡ ends_at b k ++ drop n l₀ → take (n - 0) (drop 0 l) ≡ ends_at b k
   ends_read {n} l₀ e f = front n (ends_at b k) l₀ f (length_ends b k ∙ sym e)

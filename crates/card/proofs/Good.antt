@@ -10,7 +10,8 @@ use mathlib.Core.List.{List}
 use Prim.Native.Nat.{ℕ, zero, suc, ◌+◌, ◌-◌, ◌<◌}
 use native.Mathlib.Omega.{arith}
 use Rattle.plane.proofs.Logic.{iff_join, iff_and}
-use Rattle.region.specs.Refusals.{number_if, first_number, card_header, card_parcels, card_vertices}
+use Rattle.region.specs.declared.refusals.Refusal.TheVariants.{CardHeader, CardParcels, CardVertices}
+use Rattle.region.specs.Refusals.{number_if, first_number}
 use Rattle.region.proofs.Keeps.{keeps_fewer, sized}
 use Rattle.region.proofs.Check.{shape_number_none}
 use Rattle.region.proofs.OrElse.{or_else_none, number_if_none, first_number_none}
@@ -36,10 +37,10 @@ module _ (b : List ℕ) where
       × ((wrong_vertices b ≡ false) × ((k : ℕ) → k < parcel_count b → shape_number b k ≡ 0)))))
   unfolding card_number
   card_tests =
-      iff_join (or_else_none (number_if (wrong_header b) card_header) _) (iff_and (number_if_none (wrong_header b) card_header)
-      (iff_join (or_else_none (number_if (wrong_parcels b) card_parcels) _) (iff_and (number_if_none (wrong_parcels b) card_parcels)
+      iff_join (or_else_none (number_if (wrong_header b) CardHeader) _) (iff_and (number_if_none (wrong_header b) CardHeader)
+      (iff_join (or_else_none (number_if (wrong_parcels b) CardParcels) _) (iff_and (number_if_none (wrong_parcels b) CardParcels)
       (iff_join (or_else_none (first_number (sizes_number b) (parcel_count b)) _) (iff_and same
-      (iff_join (or_else_none (number_if (wrong_vertices b) card_vertices) _) (iff_and (number_if_none (wrong_vertices b) card_vertices)
+      (iff_join (or_else_none (number_if (wrong_vertices b) CardVertices) _) (iff_and (number_if_none (wrong_vertices b) CardVertices)
       (first_number_none (shape_number b) (parcel_count b)))))))))
     where
       same : (first_number (sizes_number b) (parcel_count b) ≡ 0) ↔ (first_number (sizes_number b) (parcel_count b) ≡ 0)

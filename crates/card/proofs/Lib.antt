@@ -1,4 +1,3 @@
-pub mod Filling
 pub mod Sums
 pub mod Tests
 pub mod Bounds

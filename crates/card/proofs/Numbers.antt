@@ -12,9 +12,11 @@ use lib.Dec.{ltb}
 use lib.ListN.{length}
 use Rattle.plane.specs.Choice.{pick}
 use Rattle.plane.specs.Folds.{any_to, first_of}
-use Rattle.region.specs.declared.Checked.{Checked}
-use Rattle.region.specs.declared.Checked.TheVariants.{Accepted, Refused}
-use Rattle.region.specs.Refusals.{Refusal, number, number_if, or_else, first_number, ring_length, list_size, card_header, card_parcels, card_vertices}
+use Rattle.region.specs.Check.{Checked}
+use Rattle.region.specs.Check.{Accepted, Refused}
+use Rattle.region.specs.declared.refusals.Refusal.{Refusal}
+use Rattle.region.specs.declared.refusals.Refusal.TheVariants.{RingLength, ListSize, CardHeader, CardParcels, CardVertices}
+use Rattle.region.specs.Refusals.{number, number_if, or_else, first_number}
 use Rattle.region.specs.Region.{Region, most_rings, most_vertices, last_end}
 use Rattle.region.specs.Check.{short_at, breaks_at, first_breaking, shape_of, number_of}
 use Rattle.card.specs.Reading.{parcel_count, ends_at, region_at}
@@ -57,7 +59,7 @@ module _ (Can : ℕ → Type 0) (none : Can 0) where
   sizes_can : (b : List ℕ) (k : ℕ) → Can 2 → Can 3 → Can (sizes_number b k)
   unfolding sizes_number
   sizes_can b k two three =
-      else_can (number_if short ring_length) (number_if long list_size) (if_can short ring_length two) (if_can long list_size three)
+      else_can (number_if short RingLength) (number_if long ListSize) (if_can short RingLength two) (if_can long ListSize three)
     where
       short : Bool
       short = any_to (short_at (ends_at b k)) (length (ends_at b k))
@@ -77,10 +79,10 @@ module _ (b : List ℕ) where
       let none : Can 0 = inl refl in
       let rule : (n : ℕ) → 2 ≤ n → n ≤ 7 → Can n = λ n l h. inr (inl (l, h)) in
       let whole : (n : ℕ) → 14 ≤ n → n ≤ 16 → Can n = λ n l h. inr (inr (l, h)) in
-      else_can Can none _ _ (if_can Can none (wrong_header b) card_header (whole 14 (omega arith) (omega arith)))
-      (else_can Can none _ _ (if_can Can none (wrong_parcels b) card_parcels (whole 15 (omega arith) (omega arith)))
+      else_can Can none _ _ (if_can Can none (wrong_header b) CardHeader (whole 14 (omega arith) (omega arith)))
+      (else_can Can none _ _ (if_can Can none (wrong_parcels b) CardParcels (whole 15 (omega arith) (omega arith)))
       (else_can Can none _ _ (first_can Can none (sizes_number b) (parcel_count b) (λ k. sizes_can Can none b k (rule 2 (omega arith) (omega arith)) (rule 3 (omega arith) (omega arith))))
-      (else_can Can none _ _ (if_can Can none (wrong_vertices b) card_vertices (whole 16 (omega arith) (omega arith)))
+      (else_can Can none _ _ (if_can Can none (wrong_vertices b) CardVertices (whole 16 (omega arith) (omega arith)))
       (first_can Can none (shape_number b) (parcel_count b) (λ k. shape_can Can none (region_at b k) (λ n l h. rule n (omega arith) h))))))
 
   pub not_good_means : CardsOwn (card_number b) ↔ (GoodCard b → ⊥)

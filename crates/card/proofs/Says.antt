@@ -13,9 +13,10 @@ use borrow.Author.Tests.{ltb-true, ltb-false, lt-ltb, le-ltb}
 use Rattle.plane.specs.Folds.{any_to}
 use Rattle.plane.proofs.Logic.{clash, is_false, is_true}
 use Rattle.plane.proofs.Folds.{any_means}
-use Rattle.region.specs.declared.Checked.{Checked}
-use Rattle.region.specs.declared.Checked.TheVariants.{Accepted, Refused}
-use Rattle.region.specs.Refusals.{number_if, or_else, first_number, ring_length, list_size, card_header, card_parcels, card_vertices}
+use Rattle.region.specs.Check.{Checked}
+use Rattle.region.specs.Check.{Accepted, Refused}
+use Rattle.region.specs.declared.refusals.Refusal.TheVariants.{RingLength, ListSize, CardHeader, CardParcels, CardVertices}
+use Rattle.region.specs.Refusals.{number_if, or_else, first_number}
 use Rattle.region.specs.Region.{most_vertices, last_end}
 use Rattle.region.specs.Rules.{Breaks, Keeps}
 use Rattle.region.specs.Check.{short_at, shape_of, number_of}
@@ -62,7 +63,7 @@ module _ (b : List ℕ) where
       λ x. (any_means (short_at (ends_at b k)) (length (ends_at b k))).1 (x.0, x.1.0, lt-ltb _ _ x.1.1),
     )
 
-    sizes_by : (s l : Bool) → short ≡ s → long ≡ l → sizes_number b k ≡ or_else (number_if s ring_length) (number_if l list_size)
+    sizes_by : (s l : Bool) → short ≡ s → long ≡ l → sizes_number b k ≡ or_else (number_if s RingLength) (number_if l ListSize)
     unfolding sizes_number
     sizes_by s l es el = rw (es, el) refl
 
@@ -83,7 +84,7 @@ module _ (b : List ℕ) where
   -- ---- the card's number, by what decides it
   card_by : (h p : Bool) (z : ℕ) (v : Bool) (s : ℕ) → wrong_header b ≡ h → wrong_parcels b ≡ p → first_number (sizes_number b) (parcel_count b) ≡ z → wrong_vertices b ≡ v
       → first_number (shape_number b) (parcel_count b) ≡ s
-      → card_number b ≡ or_else (number_if h card_header) (or_else (number_if p card_parcels) (or_else z (or_else (number_if v card_vertices) s)))
+      → card_number b ≡ or_else (number_if h CardHeader) (or_else (number_if p CardParcels) (or_else z (or_else (number_if v CardVertices) s)))
   unfolding card_number
   card_by h p z v s eh ep ez ev es = rw (eh, ep, ez, ev, es) refl
 

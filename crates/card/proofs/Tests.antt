@@ -16,7 +16,8 @@ use borrow.Author.Tests.{lt-ltb, le-ltb, eq-eqb, ne_eqb, lt-leb, ltb-false, leb-
 use Rattle.plane.specs.Folds.{any_to, sum_to}
 use Rattle.plane.proofs.Logic.{never, clash, is_false, iff_join, iff_and}
 use Rattle.plane.proofs.Folds.{any_means, any_none}
-use Rattle.region.specs.Refusals.{number_if, ring_length, list_size}
+use Rattle.region.specs.declared.refusals.Refusal.TheVariants.{RingLength, ListSize}
+use Rattle.region.specs.Refusals.{number_if}
 use Rattle.region.specs.Region.{most_rings, most_vertices, start_of, last_end}
 use Rattle.region.specs.Check.{short_at}
 use Rattle.region.proofs.OrElse.{or_else_none, number_if_none}
@@ -158,9 +159,9 @@ module _ (b : List ℕ) (k : ℕ) where
   pub sizes_mean : (sizes_number b k ≡ 0) ↔ (Grown (ends_at b k) × (last_end (ends_at b k) ≤ most_vertices))
   unfolding sizes_number short_at
   sizes_mean =
-      iff_join (or_else_none (number_if short ring_length) (number_if long list_size))
-      (iff_and (iff_join (number_if_none short ring_length) (iff_join (some_none (short_at (ends_at b k)) (length (ends_at b k))) each))
-      (iff_join (number_if_none long list_size) (lt_none most_vertices (last_end (ends_at b k)))))
+      iff_join (or_else_none (number_if short RingLength) (number_if long ListSize))
+      (iff_and (iff_join (number_if_none short RingLength) (iff_join (some_none (short_at (ends_at b k)) (length (ends_at b k))) each))
+      (iff_join (number_if_none long ListSize) (lt_none most_vertices (last_end (ends_at b k)))))
     where
       each : ((r : ℕ) → r < length (ends_at b k) → ltb (get_or (ends_at b k) r 0) (start_of (ends_at b k) r + 3) ≡ false) ↔ Grown (ends_at b k)
       each = (λ h r l. ltb-false _ _ (h r l), λ h r l. le-ltb _ _ (h r l))

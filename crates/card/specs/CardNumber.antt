@@ -7,7 +7,8 @@
 --   card_number b        the card's own refusal, or 0: the card is good. Its meaning: proofs/Good, `good_means`
 use Rattle.std.specs.Prelude.{Bool, not, ◌&&◌, ◌||◌, List, ℕ, ◌-◌, leb, ltb, eqb, length}
 use Rattle.plane.specs.Folds.{any_to, sum_to}
-use Rattle.region.specs.Refusals.{number_if, or_else, first_number, ring_length, list_size, card_header, card_parcels, card_vertices}
+use Rattle.region.specs.declared.refusals.Refusal.TheVariants.{RingLength, ListSize, CardHeader, CardParcels, CardVertices}
+use Rattle.region.specs.Refusals.{number_if, or_else, first_number}
 use Rattle.region.specs.Region.{most_rings, most_vertices, last_end}
 use Rattle.region.specs.Check.{short_at, shape_of, number_of}
 use Rattle.endian.specs.Bytes.{u16_at}
@@ -29,7 +30,7 @@ wrong_parcels b = any_to (wrong_entry b) (parcel_count b) || not (eqb (sum_to (c
 
 unfoldable pub sizes_number : List ℕ → ℕ → ℕ
 sizes_number b k =
-    or_else (number_if (any_to (short_at (ends_at b k)) (length (ends_at b k))) ring_length) (number_if (ltb most_vertices (last_end (ends_at b k))) list_size)
+    or_else (number_if (any_to (short_at (ends_at b k)) (length (ends_at b k))) RingLength) (number_if (ltb most_vertices (last_end (ends_at b k))) ListSize)
 
 unfoldable pub wrong_vertices : List ℕ → Bool
 wrong_vertices b = not (eqb (sum_to (λ k. last_end (ends_at b k)) (parcel_count b)) (vertex_count b))
@@ -39,7 +40,7 @@ shape_number b k = number_of (shape_of (region_at b k))
 
 unfoldable pub card_number : List ℕ → ℕ
 card_number b =
-    or_else (number_if (wrong_header b) card_header)
-    (or_else (number_if (wrong_parcels b) card_parcels)
+    or_else (number_if (wrong_header b) CardHeader)
+    (or_else (number_if (wrong_parcels b) CardParcels)
     (or_else (first_number (sizes_number b) (parcel_count b))
-    (or_else (number_if (wrong_vertices b) card_vertices) (first_number (shape_number b) (parcel_count b)))))
+    (or_else (number_if (wrong_vertices b) CardVertices) (first_number (shape_number b) (parcel_count b)))))

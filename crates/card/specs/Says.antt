@@ -7,7 +7,8 @@
 --   CardSays b n       the card is good, and n is 0; or n is the first number that refuses it: of the first parcel that one does, the lowest
 use Rattle.std.specs.Prelude.{◌≡◌, ◌≢◌, List, ℕ, ◌-◌, ◌≤◌, ◌<◌, length}
 use Rattle.plane.specs.Folds.{sum_to}
-use Rattle.region.specs.Refusals.{number, ring_length, list_size, card_header, card_parcels, card_vertices}
+use Rattle.region.specs.declared.refusals.Refusal.TheVariants.{RingLength, ListSize, CardHeader, CardParcels, CardVertices}
+use Rattle.region.specs.Refusals.{number}
 use Rattle.region.specs.Region.{most_rings, most_vertices, last_end}
 use Rattle.region.specs.Rules.{Breaks, KeepsRules, RefusedWith}
 use Rattle.endian.specs.Bytes.{u16_at}
@@ -43,12 +44,12 @@ VerticesAdd b = sum_to (λ k. last_end (ends_at b k)) (parcel_count b) ≡ verte
 
 pub data CardSays (b : List ℕ) : ℕ → Type 0 where
   says_good : GoodCard b → CardSays b 0
-  says_header : (Header b → ⊥) → CardSays b (number card_header)
-  says_entries : Header b → (Entries b → ⊥) → CardSays b (number card_parcels)
+  says_header : (Header b → ⊥) → CardSays b (number CardHeader)
+  says_entries : Header b → (Entries b → ⊥) → CardSays b (number CardParcels)
   says_short : Header b → Entries b → (k : ℕ) → k < parcel_count b → ((j : ℕ) → j < k → Sizes b j) → (r : ℕ) → Breaks (region_at b k) 2 r
-      → CardSays b (number ring_length)
+      → CardSays b (number RingLength)
   says_long : Header b → Entries b → (k : ℕ) → k < parcel_count b → ((j : ℕ) → j < k → Sizes b j) → ((r : ℕ) → Breaks (region_at b k) 2 r → ⊥)
-      → most_vertices < last_end (ends_at b k) → CardSays b (number list_size)
-  says_vertices : Header b → Entries b → ((k : ℕ) → k < parcel_count b → Sizes b k) → (VerticesAdd b → ⊥) → CardSays b (number card_vertices)
+      → most_vertices < last_end (ends_at b k) → CardSays b (number ListSize)
+  says_vertices : Header b → Entries b → ((k : ℕ) → k < parcel_count b → Sizes b k) → (VerticesAdd b → ⊥) → CardSays b (number CardVertices)
   says_shape : Header b → Entries b → ((k : ℕ) → k < parcel_count b → Sizes b k) → VerticesAdd b → (k : ℕ) → k < parcel_count b
       → ((j : ℕ) → j < k → KeepsRules (region_at b j)) → (n r : ℕ) → RefusedWith (region_at b k) n r → CardSays b n

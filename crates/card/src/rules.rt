@@ -1,10 +1,10 @@
 // The rules that the header and the entries of a card keep: 14 and 15.
-ghost use Rattle.std.specs.Prelude.{◌≡◌, false, ◌&&◌, ◌-◌, ◌<◌, leb, ltb};
+ghost use Rattle.std.specs.Prelude.{◌≡◌, ◌&&◌, ◌-◌, ◌<◌, leb, ltb};
 ghost use Rattle.card.specs.Reading.{parcel_count, slot_at};
 ghost use Rattle.card.specs.CardNumber.{wrong_header, wrong_entry, wrong_parcels};
 
-use crate::{PARCELS_AT, count_at, first_ring, parcel_count, slot_at};
-use endian::u16_at;
+use crate::{HeadedCard, PARCELS_AT, count_at, slot_at};
+use endian::LittleEndian;
 use region::MOST_RINGS;
 
 const MOST_CARD_PARCELS: usize = 32;
@@ -21,71 +21,68 @@ pub fn wrong_header(card: &[u8]) -> bool
     if card.len() < PARCELS_AT {
         return true;
     }
-    let parcels = u16_at(card, 0) as usize;
+    let parcels = u16::read(card, 0) as usize;
     if MOST_CARD_PARCELS < parcels {
         return true;
     }
-    let rings = u16_at(card, 2) as usize;
+    let rings = u16::read(card, 2) as usize;
     if MOST_CARD_RINGS < rings {
         return true;
     }
-    let vertices = u16_at(card, 4) as usize;
+    let vertices = u16::read(card, 4) as usize;
     if MOST_CARD_VERTICES < vertices {
         return true;
     }
-    if u16_at(card, 6) as usize != PARCELS_AT {
+    if u16::read(card, 6) as usize != PARCELS_AT {
         return true;
     }
     let rings_at = PARCELS_AT + 4 * parcels;
-    if u16_at(card, 8) as usize != rings_at {
+    if u16::read(card, 8) as usize != rings_at {
         return true;
     }
     let vertices_at = rings_at + 2 * rings;
-    if u16_at(card, 10) as usize != vertices_at {
+    if u16::read(card, 10) as usize != vertices_at {
         return true;
     }
     card.len() != vertices_at + 8 * vertices
 }
 
 // The slot of entry k is no higher than that of the entry before it.
-fn falls_back(card: &[u8], k: usize) -> bool
-    requires { (wrong_header card.now ≡ false) × (k < parcel_count card.now) }
-    ensures { result ≡ (ltb 0 k && leb (slot_at card.now k) (slot_at card.now (k - 1))) }
+fn falls_back(card: &HeadedCard, k: usize) -> bool
+    requires { k < parcel_count card.now.bytes.now }
+    ensures { result ≡ (ltb 0 k && leb (slot_at card.now.bytes.now k) (slot_at card.now.bytes.now (k - 1))) }
 {
     if k == 0 {
         return false;
     }
-    slot_at(card, k) <= slot_at(card, k - 1)
+    slot_at(card.bytes, k) <= slot_at(card.bytes, k - 1)
 }
 
-fn wrong_entry(card: &[u8], k: usize) -> bool
-    requires { (wrong_header card.now ≡ false) × (k < parcel_count card.now) }
-    ensures { result ≡ wrong_entry card.now k }
+fn wrong_entry(card: &HeadedCard, k: usize) -> bool
+    requires { k < parcel_count card.now.bytes.now }
+    ensures { result ≡ wrong_entry card.now.bytes.now k }
 {
     if falls_back(card, k) {
         return true;
     }
-    if LAST_CARD_SLOT < slot_at(card, k) {
+    if LAST_CARD_SLOT < slot_at(card.bytes, k) {
         return true;
     }
-    let count = count_at(card, k);
+    let count = count_at(card.bytes, k);
     if count == 0 {
         return true;
     }
     MOST_RINGS < count
 }
 
-pub fn wrong_parcels(card: &[u8]) -> bool
-    requires { wrong_header card.now ≡ false }
-    ensures { result ≡ wrong_parcels card.now }
+pub fn wrong_parcels(card: &HeadedCard) -> bool
+    ensures { result ≡ wrong_parcels card.now.bytes.now }
 {
-    let parcels = parcel_count(card);
-    let mut k = 0;
-    while k < parcels {
+    let parcels = card.parcel_count();
+    for k in 0..parcels {
         if wrong_entry(card, k) {
             return true;
         }
-        k += 1;
     }
-    first_ring(card, parcels) != u16_at(card, 2) as usize
+    card.first_ring(parcels) != u16::read(card.bytes, 2) as usize
 }

@@ -2,9 +2,9 @@
 --   pair_in card j k     the pair answer for parcels j and k
 --   drawn_in card j k    their drawn matrix
 use Rattle.std.specs.Prelude.{List, ℕ}
-use Rattle.pair.specs.declared.Answer.{Answer}
+use Rattle.pair.specs.Answer.{Answer}
 use Rattle.pair.specs.Answer.{pair_of}
-use Rattle.drawn.specs.declared.DrawnMatrix.{DrawnMatrix}
+use Rattle.drawn.specs.Drawn.{DrawnMatrix}
 use Rattle.drawn.specs.Drawn.{drawn_of}
 use Rattle.card.specs.Reading.{region_at}
 

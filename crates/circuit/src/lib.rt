@@ -2,11 +2,11 @@
 // asked in `simple`, its tiles and pieces in `seen`.
 #![tactic(auto)]
 
-ghost use Rattle.std.specs.Prelude.{◌≡◌, true, ◌+◌, ◌≤◌, ◌<◌, min, max};
-ghost use Rattle.plane.specs.Place.{place_of, in_range};
+ghost use Rattle.std.specs.Prelude.{◌≡◌, ◌+◌, ◌<◌};
+ghost use Rattle.plane.specs.Place.{place_of};
 ghost use Rattle.plane.specs.Points.{vertex};
 ghost use Rattle.plane.specs.Placed.{EdgeInPlaces, BoxInPlaces};
-ghost use Rattle.ring.specs.Edges.{next_of, ring_edge};
+ghost use Rattle.ring.specs.Edges.{next_of, corner, ring_edge};
 ghost use Rattle.ring.specs.Stretch.{Readable, Stretch};
 ghost use Rattle.ring.specs.RingBox.{stretch_box};
 ghost use Rattle.ring.specs.Repeated.{equal_ends};
@@ -15,111 +15,123 @@ ghost use Rattle.ring.specs.Enclosed.{crosses_at, encloses};
 use meet::{leftward, rightward};
 use plane::{Box, Edge, place_at, place_of};
 
-// The places of vertex i.
-fn x_at(xs: &[i32], i: usize) -> u64
-    requires { Readable xs.now i }
-    ensures { result ≡ place_of (vertex xs.now i).x }
-{
-    place_at(xs, 2 * i)
+// The ring of `size` vertices from vertex `from` on in an outline's coordinates, which a pass may read: they stand there, in range.
+#[derive(Clone, Copy)]
+pub struct Ring<'a> {
+    pub outline: &'a [i32],
+    pub from: usize,
+    pub size: usize,
+    pub ghost stretch: { Stretch outline.now from size },
 }
 
-fn y_at(xs: &[i32], i: usize) -> u64
-    requires { Readable xs.now i }
-    ensures { result ≡ place_of (vertex xs.now i).y }
-{
-    place_at(xs, 2 * i + 1)
-}
-
-// The vertex after vertex k of the ring: the last joins the first.
-pub fn next_of(from: usize, n: usize, k: usize) -> usize
-    requires { (k < n) × (from + n ≤ 2048) }
-    ensures { result ≡ next_of from n k }
-{
-    if k + 1 == n {
-        return from;
+impl<'a> Ring<'a> {
+    // The coordinates of its vertex k.
+    pub fn x_of(&self, k: usize) -> i32
+        requires { k < self.now.size }
+        ensures { result ≡ (corner self.now.outline.now self.now.from k).x }
+    {
+        self.outline[2 * (self.from + k)]
     }
-    from + k + 1
-}
 
-pub fn ring_edge(xs: &[i32], from: usize, n: usize, k: usize) -> Edge
-    requires { Stretch xs.now from n × (k < n) }
-    ensures { result ≡ ring_edge xs.now from n k }
-{
-    let next = next_of(from, n, k);
-    let ax = x_at(xs, from + k);
-    let ay = y_at(xs, from + k);
-    let bx = x_at(xs, next);
-    let by = y_at(xs, next);
-    Edge { ax, ay, bx, by }
-}
-
-// The coordinates of vertex i.
-pub fn x_of(xs: &[i32], i: usize) -> i32
-    requires { Readable xs.now i }
-    ensures { result ≡ (vertex xs.now i).x }
-{
-    xs[2 * i]
-}
-
-pub fn y_of(xs: &[i32], i: usize) -> i32
-    requires { Readable xs.now i }
-    ensures { result ≡ (vertex xs.now i).y }
-{
-    xs[2 * i + 1]
-}
-
-fn lower(a: i32, b: i32) -> i32
-    requires { (in_range a ≡ true) × (in_range b ≡ true) }
-    ensures { (in_range result ≡ true) × (place_of result ≡ min (place_of a) (place_of b)) }
-{
-    if a <= b { a } else { b }
-}
-
-fn higher(a: i32, b: i32) -> i32
-    requires { (in_range a ≡ true) × (in_range b ≡ true) }
-    ensures { (in_range result ≡ true) × (place_of result ≡ max (place_of a) (place_of b)) }
-{
-    if a <= b { b } else { a }
-}
-
-// The coordinates are compared as they stand, so that the compiler compares four at a time; only the four lines are made places.
-pub fn stretch_box(xs: &[i32], from: usize, n: usize) -> Box
-    requires { Stretch xs.now from n × (0 < n) }
-    ensures { result ≡ stretch_box xs.now from n }
-{
-    let mut west = x_of(xs, from);
-    let mut south = y_of(xs, from);
-    let mut east = west;
-    let mut north = south;
-    let mut k: usize = 1;
-    while k < n {
-        let x = x_of(xs, from + k);
-        let y = y_of(xs, from + k);
-        west = lower(west, x);
-        south = lower(south, y);
-        east = higher(east, x);
-        north = higher(north, y);
-        k += 1;
+    pub fn y_of(&self, k: usize) -> i32
+        requires { k < self.now.size }
+        ensures { result ≡ (corner self.now.outline.now self.now.from k).y }
+    {
+        self.outline[2 * (self.from + k) + 1]
     }
-    Box {
-        west: place_of(west),
-        south: place_of(south),
-        east: place_of(east),
-        north: place_of(north),
+
+    // Which vertex of the outline comes after its vertex k: the last joins the first.
+    #[tactic(auto, unfolding(ring::specs::Edges::next_of))]
+    pub fn next_of(&self, k: usize) -> usize
+        requires { k < self.now.size }
+        ensures { result ≡ next_of self.now.from self.now.size k }
+    {
+        if k + 1 == self.size {
+            return self.from;
+        }
+        self.from + k + 1
+    }
+
+    #[tactic(auto, using(ring::proofs::Stretch::corner_readable), unfolding(ring::specs::Edges::ring_edge))]
+    pub fn edge(&self, k: usize) -> Edge
+        requires { k < self.now.size }
+        ensures { result ≡ ring_edge self.now.outline.now self.now.from self.now.size k }
+    {
+        let next = self.next_of(k);
+        let ax = self.x_at(self.from + k);
+        let ay = self.y_at(self.from + k);
+        let bx = self.x_at(next);
+        let by = self.y_at(next);
+        Edge { ax, ay, bx, by }
+    }
+
+    // The places of vertex i of the outline, one of the ring's.
+    fn x_at(&self, i: usize) -> u64
+        requires { Readable self.now.outline.now i }
+        ensures { result ≡ place_of (vertex self.now.outline.now i).x }
+    {
+        place_at(self.outline, 2 * i)
+    }
+
+    fn y_at(&self, i: usize) -> u64
+        requires { Readable self.now.outline.now i }
+        ensures { result ≡ place_of (vertex self.now.outline.now i).y }
+    {
+        place_at(self.outline, 2 * i + 1)
+    }
+
+    // The box round it. The coordinates are compared as they stand, so that the compiler compares four at a time; only the four lines are
+    // made places.
+    pub fn own_box(&self) -> Box
+        requires { 0 < self.now.size }
+        ensures { result ≡ stretch_box self.now.outline.now self.now.from self.now.size }
+    {
+        let mut west = self.x_of(0);
+        let mut south = self.y_of(0);
+        let mut east = west;
+        let mut north = south;
+        for k in 1..self.size {
+            let x = self.x_of(k);
+            let y = self.y_of(k);
+            west = west.min(x);
+            south = south.min(y);
+            east = east.max(x);
+            north = north.max(y);
+        }
+        Box {
+            west: place_of(west),
+            south: place_of(south),
+            east: place_of(east),
+            north: place_of(north),
+        }
+    }
+
+    // Does it enclose the box's centre?
+    pub fn encloses(&self, b: Box) -> bool
+        requires { BoxInPlaces b }
+        ensures { result ≡ encloses b self.now.outline.now self.now.from self.now.size }
+    {
+        let mut crossing: u64 = 0;
+        for k in 0..self.size {
+            if crosses_ray(b, self.edge(k)) {
+                crossing += 1;
+            }
+        }
+        crossing % 2 == 1
     }
 }
 
+// Are the edge's ends one point?
+#[tactic(auto, unfolding(ring::specs::Repeated::equal_ends))]
 pub fn equal_ends(g: Edge) -> bool
     ensures { result ≡ equal_ends g }
 {
-    if g.ax != g.bx {
-        return false;
-    }
-    g.ay == g.by
+    g.ax == g.bx && g.ay == g.by
 }
 
 // Does the edge cross the ray strictly east of the box's centre? Everything is doubled with the centre; the products are asked only
 // of an edge whose ends lie on both sides of the ray's height.
+#[tactic(auto, unfolding(ring::specs::Enclosed::crosses_at, ring::specs::Enclosed::eastward))]
 fn crosses_ray(b: Box, g: Edge) -> bool
     requires { BoxInPlaces b × EdgeInPlaces g }
     ensures { result ≡ crosses_at 2 (b.west + b.east) (b.south + b.north) g }
@@ -142,19 +154,4 @@ fn crosses_ray(b: Box, g: Edge) -> bool
         return false;
     }
     leftward(doubled, px, py) < rightward(doubled, px, py)
-}
-
-pub fn ring_encloses(b: Box, xs: &[i32], from: usize, n: usize) -> bool
-    requires { BoxInPlaces b × Stretch xs.now from n }
-    ensures { result ≡ encloses b xs.now from n }
-{
-    let mut crossing: u64 = 0;
-    let mut k: usize = 0;
-    while k < n {
-        if crosses_ray(b, ring_edge(xs, from, n, k)) {
-            crossing += 1;
-        }
-        k += 1;
-    }
-    crossing % 2 == 1
 }

@@ -2,7 +2,7 @@
 --   set_and          what two sets have in common
 --   set_moved        a set of 15 squares moved by k, within 40 squares
 --   set_some         a set is not 0 exactly where some number is in it
---   occurs_not, occurs_so    what the code asks: the two sets, shifted in words of 64 bits, have nothing in common, or have
+--   occurs_is        what the code asks: whether the two sets, shifted in words of 64 bits, have something in common
 --   Fall             a square of each set, which fall on each other where the second is moved by the difference
 --   occurs_means     some square of the second set, moved so, falls on one of the first exactly where there are such two
 use mathlib.Core.Path.{◌≡◌, refl, sym, ◌∙◌, ap}
@@ -12,10 +12,10 @@ use Prim.Native.Nat.{ℕ, zero, suc, ◌+◌, ◌-◌, ◌*◌, ◌%◌, ◌^◌
 use native.Mathlib.Omega.{arith}
 use native.Mathlib.Nat.{zero-div, zero-add, mul-le-mul_left}
 use native.Mathlib.Decide.{dec_le}
-use lib.Dec.{leb, ltb}
+use lib.Dec.{leb, ltb, eqb}
 use lib.Pow.{pow-add, pow_mono}
 use lib.Bits.{bit_and, and_block}
-use borrow.Author.Tests.{le-leb, lt-leb, lt-ltb, eq-eqb, ne_eqb}
+use borrow.Author.Tests.{le-leb, lt-leb, lt-ltb}
 use Rattle.plane.specs.Folds.{any_to}
 use Rattle.plane.specs.TileSet.{one_if, set_of, bit}
 use Rattle.plane.proofs.Logic.{and_means, not_means, eq_means, le_means, lt_means, iff_join, iff_not, is_false}
@@ -161,10 +161,6 @@ module _ (x y r s : ℕ) (hr : r < 5) (hs : s < 5) (hx : x < 2 ^ 15) (hy : y < 2
       let most : 2 ^ (5 * r + s) ≤ 2 ^ 24 = pow_mono {i = 5 * r + s} {j = 24} (omega arith) in
       small (y * 2 ^ (5 * r + s)) (omega (arith, mul-le-mul_left y most))
 
-  pub occurs_not : bit_and (x * 2 ^ 12 % 2 ^ 64) (y * 2 ^ (5 * r + s) % 2 ^ 64) ≡ 0 → false ≡ occurs x y r s
+  pub occurs_is : not (eqb (bit_and (x * 2 ^ 12 % 2 ^ 64) (y * 2 ^ (5 * r + s) % 2 ^ 64)) 0) ≡ occurs x y r s
   unfolding occurs
-  occurs_not e = sym (ap not (eq-eqb (bit_and (x * 2 ^ 12) (y * 2 ^ (5 * r + s))) 0 (rw (first_small, second_small) at e)))
-
-  pub occurs_so : bit_and (x * 2 ^ 12 % 2 ^ 64) (y * 2 ^ (5 * r + s) % 2 ^ 64) ≢ 0 → true ≡ occurs x y r s
-  unfolding occurs
-  occurs_so n = sym (ap not (ne_eqb (bit_and (x * 2 ^ 12) (y * 2 ^ (5 * r + s))) 0 (rw (first_small, second_small) at n)))
+  occurs_is = rw (first_small, second_small)

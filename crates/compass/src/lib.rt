@@ -12,6 +12,7 @@ ghost use Rattle.compass.specs.Directions.{side_of, directions_of};
 ghost use Rattle.compass.specs.Differences.{holds_either, squares_of, occurs, place_of, direction_at, within_rows};
 
 use matrix::{BOTH, FIRST, SECOND};
+use std::cmp::Ordering;
 
 // How many differences there are in rows, and in columns.
 const DIFFERENCES: usize = 5;
@@ -30,10 +31,8 @@ pub fn directions_of(m: [[u8; 3]; 3]) -> u16
     let first = squares(m, FIRST);
     let second = squares(m, SECOND);
     let mut directions: u16 = 0;
-    let mut rows: usize = 0;
-    while rows < DIFFERENCES {
+    for rows in 0..DIFFERENCES {
         directions = directions | directions_in_rows(first, second, rows);
-        rows += 1;
     }
     directions
 }
@@ -44,10 +43,8 @@ fn directions_in_rows(first: u64, second: u64, rows: usize) -> u16
     ensures { result ≡ set_of (within_rows first second rows) 9 }
 {
     let mut directions: u16 = 0;
-    let mut columns: usize = 0;
-    while columns < DIFFERENCES {
+    for columns in 0..DIFFERENCES {
         directions = directions | direction_at(first, second, rows, columns);
-        columns += 1;
     }
     directions
 }
@@ -71,10 +68,7 @@ fn occurs(first: u64, second: u64, rows: usize, columns: usize) -> bool
 {
     let unmoved = first << UNMOVED;
     let moved = second << (5 * rows + columns);
-    if unmoved & moved == 0 {
-        return false;
-    }
-    true
+    unmoved & moved != 0
 }
 
 // The compass place of a difference: rows up are north, none the middle, down south; columns west, middle, east.
@@ -88,13 +82,11 @@ fn compass_place(rows: usize, columns: usize) -> u16
 fn side_of(difference: usize) -> u16
     ensures { (result ≡ side_of difference 2) × (result ≤ 2) }
 {
-    if difference < NONE {
-        return 0;
+    match difference.cmp(&NONE) {
+        Ordering::Less => 0,
+        Ordering::Equal => 1,
+        Ordering::Greater => 2,
     }
-    if difference == NONE {
-        return 1;
-    }
-    2
 }
 
 // The cells that hold the region whose own value is given, as squares. Each row stands five squares behind the one before, so its marks count
@@ -119,6 +111,5 @@ fn row_squares(west: u8, middle: u8, east: u8, own: u8) -> u64
 fn mark(value: u8, own: u8) -> u64
     ensures { (result ≡ one_if (holds_either value own)) × (result ≤ 1) }
 {
-    let holds = (value == own) | (value == BOTH);
-    if holds { 1 } else { 0 }
+    u64::from((value == own) | (value == BOTH))
 }

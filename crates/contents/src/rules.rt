@@ -1,101 +1,74 @@
 // The card's own rules: 14, 15, 2 and 3, 16, and 4 to 7, in this order.
 ghost use Rattle.std.specs.Prelude.{◌≡◌, ◌<◌};
-ghost use Rattle.region.specs.Refusals.{first_number};
+ghost use Rattle.region.specs.Refusals.{number_in};
 ghost use Rattle.card.specs.Reading.{parcel_count};
 ghost use Rattle.card.specs.CardNumber.{sizes_number, wrong_vertices, shape_number, card_number};
 ghost use Rattle.card.specs.Right.{RightParcels, RightVertices};
 
 use crate::{MOST_NUMBERS, first_vertex, read_ends, read_numbers};
-use card::parcel_count;
-use card::rules::{wrong_header, wrong_parcels};
-use endian::u16_at;
-use outline::{check_shape, first_short, last_end, number_of};
-use region::refusals::{CARD_HEADER, CARD_PARCELS, CARD_VERTICES, LIST_SIZE, RING_LENGTH};
-use region::{MOST_RINGS, MOST_VERTICES};
+use card::rules::wrong_parcels;
+use card::{HeadedCard, parcel_count};
+use endian::LittleEndian;
+use outline::{check_shape, first_short, last_end};
+use region::refusals::Refusal;
+use region::{MOST_RINGS, MOST_VERTICES, Outline};
 
 // Rules 2 and 3 of one parcel.
-fn sizes_number(card: &[u8], k: usize) -> u16
+fn check_sizes(card: &[u8], k: usize) -> Result<(), Refusal>
     requires { RightParcels card.now × (k < parcel_count card.now) }
-    ensures { result ≡ sizes_number card.now k }
+    ensures { number_in result ≡ sizes_number card.now k }
 {
     let mut ends = [0u16; MOST_RINGS];
     let n = read_ends(card, k, &mut ends);
-    if first_short(&ends[0..n]) < n {
-        return RING_LENGTH;
+    if first_short(&ends[0..n]).is_some() {
+        return Err(Refusal::RingLength);
     }
     if MOST_VERTICES < last_end(&ends[0..n]) {
-        return LIST_SIZE;
+        return Err(Refusal::ListSize);
     }
-    0
-}
-
-fn first_sizes(card: &[u8]) -> u16
-    requires { RightParcels card.now }
-    ensures { result ≡ first_number (sizes_number card.now) (parcel_count card.now) }
-{
-    let parcels = parcel_count(card);
-    let mut k = 0;
-    while k < parcels {
-        let n = sizes_number(card, k);
-        if n != 0 {
-            return n;
-        }
-        k += 1;
-    }
-    0
+    Ok(())
 }
 
 fn wrong_vertices(card: &[u8]) -> bool
     requires { RightParcels card.now }
     ensures { result ≡ wrong_vertices card.now }
 {
-    first_vertex(card, parcel_count(card)) != u16_at(card, 4) as usize
+    first_vertex(card, parcel_count(card)) != u16::read(card, 4) as usize
 }
 
 // Rules 4 to 7 of one parcel.
-fn shape_number(card: &[u8], k: usize) -> u16
+fn check_outline(card: &[u8], k: usize) -> Result<(), Refusal>
     requires { RightVertices card.now × (k < parcel_count card.now) }
-    ensures { result ≡ shape_number card.now k }
+    ensures { number_in result ≡ shape_number card.now k }
 {
     let mut ends = [0u16; MOST_RINGS];
     let rings = read_ends(card, k, &mut ends);
     let mut numbers = [0i32; MOST_NUMBERS];
     let n = read_numbers(card, k, &mut numbers);
-    number_of(check_shape(&numbers[0..n], &ends[0..rings]))
+    let outline = Outline {
+        coordinates: &numbers[0..n],
+        ends: &ends[0..rings],
+    };
+    check_shape(outline).map_err(|broken| broken.rule)
 }
 
-fn first_shape(card: &[u8]) -> u16
-    requires { RightVertices card.now }
-    ensures { result ≡ first_number (shape_number card.now) (parcel_count card.now) }
+// What refuses a card by itself, if anything does.
+pub fn check(card: &[u8]) -> Result<(), Refusal>
+    ensures { number_in result ≡ card_number card.now }
 {
-    let parcels = parcel_count(card);
-    let mut k = 0;
-    while k < parcels {
-        let n = shape_number(card, k);
-        if n != 0 {
-            return n;
-        }
-        k += 1;
+    let headed = HeadedCard::read(card)?;
+    if wrong_parcels(&headed) {
+        return Err(Refusal::CardParcels);
     }
-    0
-}
-
-// The number that refuses a card by itself, or 0: the card is good.
-pub fn card_number(card: &[u8]) -> u16
-    ensures { result ≡ card_number card.now }
-{
-    if wrong_header(card) {
-        return CARD_HEADER;
-    }
-    if wrong_parcels(card) {
-        return CARD_PARCELS;
-    }
-    let sizes = first_sizes(card);
-    if sizes != 0 {
-        return sizes;
+    let parcels = headed.parcel_count();
+    for j in 0..parcels {
+        check_sizes(card, j)?;
     }
     if wrong_vertices(card) {
-        return CARD_VERTICES;
+        return Err(Refusal::CardVertices);
     }
-    first_shape(card)
+    for k in 0..parcels {
+        check_outline(card, k)?;
+    }
+    Ok(())
 }

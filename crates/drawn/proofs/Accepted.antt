@@ -1,7 +1,7 @@
 -- The answer for two accepted regions.
 --   accepted_drawn     it is the one without refusal, drawn in the grid of their boxes
 use mathlib.Core.Path.{◌≡◌, sym}
-use Rattle.region.specs.declared.Checked.TheVariants.{Accepted}
+use Rattle.region.specs.Check.{Accepted}
 use Rattle.region.specs.Region.{Region}
 use Rattle.region.specs.Check.{check_of}
 use Rattle.relation.specs.Relation.{region_box}

@@ -10,35 +10,23 @@ ghost use Rattle.plane.specs.Lists.{tab};
 ghost use Rattle.plane.specs.Choice.{pick};
 ghost use Rattle.plane.specs.TileSet.{one_if, set_of, bit};
 ghost use Rattle.ring.specs.Edges.{ring_edge};
-ghost use Rattle.ring.specs.Stretch.{Stretch};
-ghost use Rattle.region.specs.Region.{region_of};
+ghost use Rattle.region.specs.Outline.{drawn_by};
 ghost use Rattle.region.specs.Rules.{Keeps};
 ghost use Rattle.relation.specs.Relation.{region_box};
 ghost use Rattle.matrix.specs.Kept.{grid_of, cell_in};
 ghost use Rattle.drawing.specs.Stays.{gap, stay_up, stay_down, counted, stay_of, overlaps, marks, StayFits};
 ghost use Rattle.drawing.specs.Drawing.{same_box};
-ghost use Rattle.drawn.specs.Drawn.{refused_with, or_refused, drawn_for, drawn_of};
+ghost use Rattle.drawn.specs.Drawn.{drawn_with, matrix_in, drawn_for, drawn_of};
 ghost use Rattle.drawn.specs.Steps.{row_stay, row_set, near, near_row, near_cell, edges_mark, ring_centre, region_centre, marked_by, is_marked, value_by};
 
-use circuit::{equal_ends, ring_edge, ring_encloses, stretch_box};
+use circuit::{Ring, equal_ends};
 use drawing::Stay;
-use matrix::{CELLS, GridLines, cell_at, grid_of, value_of};
-use outline::{check_region, size_of, start_of};
-use plane::{Box, Edge, greater, lesser};
-use region::Checked;
+use matrix::{CELLS, GridLines, SizedMatrix, cell_at, grid_of, value_of};
+use outline::{check_both, ring_of};
+use plane::{Box, Edge};
+use region::{Outline, RefusedRegion};
 use relation::region_box;
 use seen::covers_box;
-
-// Either the refusal (number, region, ring, and every other field 0), or number, region and ring 0 and the matrix with its size, its cells by row.
-#[derive(Clone, Copy)]
-pub struct DrawnMatrix {
-    pub number: u16,
-    pub region: u16,
-    pub ring: u16,
-    pub rows: u16,
-    pub columns: u16,
-    pub cells: [u8; 9],
-}
 
 // What one region marks: the cells by row, as a set of nine, that its edges mark, and whether the centre clause marks the other's box.
 #[derive(Clone, Copy)]
@@ -51,10 +39,7 @@ struct Marked {
 fn gap(p: u64, q: u64, n: u64) -> u64
     ensures { result ≡ gap p q n }
 {
-    if q <= p {
-        return 0;
-    }
-    lesser(q - p, n)
+    q.saturating_sub(p).min(n)
 }
 
 // When an axis that runs up from a in n parts is between the lines lo and hi.
@@ -186,10 +171,7 @@ fn edge_marks(own: Box, g: GridLines, e: Edge) -> u16
 fn near(a: u64, b: u64, lo: u64, hi: u64) -> bool
     ensures { result ≡ near a b lo hi }
 {
-    if hi < lesser(a, b) {
-        return false;
-    }
-    lo <= greater(a, b)
+    a.min(b) <= hi && lo <= a.max(b)
 }
 
 // Of row i from the north the cells in the columns, if the edge comes near the row.
@@ -235,65 +217,57 @@ fn with_edge(set: u16, own: Box, g: GridLines, e: Edge) -> u16
     set | edge_marks(own, g, e)
 }
 
-fn ring_marks(own: Box, g: GridLines, xs: &[i32], from: usize, n: usize) -> u16
-    requires { (g.rows ≤ 3) × Stretch xs.now from n }
-    ensures { result ≡ set_of (λ c. any_to (λ i. marks own (cell_in g (c / 3) (c % 3)) (ring_edge xs.now from n i)) n) 9 }
+fn ring_marks(own: Box, g: GridLines, ring: &Ring) -> u16
+    requires { g.rows ≤ 3 }
+    ensures { result ≡ set_of (λ c. any_to (λ i. marks own (cell_in g (c / 3) (c % 3)) (ring_edge ring.now.outline.now ring.now.from ring.now.size i)) ring.now.size) 9 }
 {
     let mut set: u16 = 0;
-    let mut k: usize = 0;
-    while k < n {
-        set = with_edge(set, own, g, ring_edge(xs, from, n, k));
-        k += 1;
+    for k in 0..ring.size {
+        set = with_edge(set, own, g, ring.edge(k));
     }
     set
 }
 
 // The cells that some edge of the region marks.
-fn region_marks(own: Box, g: GridLines, outline: &[i32], ends: &[u16]) -> u16
-    requires { (g.rows ≤ 3) × Keeps 4 (region_of outline.now ends.now) }
-    ensures { result ≡ set_of (λ c. edges_mark own (cell_in g (c / 3) (c % 3)) (region_of outline.now ends.now)) 9 }
+fn region_marks(own: Box, g: GridLines, outline: Outline) -> u16
+    requires { (g.rows ≤ 3) × Keeps 4 (drawn_by outline) }
+    ensures { result ≡ set_of (λ c. edges_mark own (cell_in g (c / 3) (c % 3)) (drawn_by outline.entry)) 9 }
 {
     let mut set: u16 = 0;
-    let mut r: usize = 0;
-    while r < ends.len() {
-        set = set | ring_marks(own, g, outline, start_of(ends, r), size_of(ends, r));
-        r += 1;
+    for r in 0..outline.ends.len() {
+        set = set | ring_marks(own, g, &ring_of(outline, r));
     }
     set
 }
 
 // The centre clause: the ring covers the other's box, and encloses its centre.
-fn ring_centre(other: Box, xs: &[i32], from: usize, n: usize) -> bool
-    requires { BoxInPlaces other × Stretch xs.now from n × (0 < n) }
-    ensures { result ≡ ring_centre other xs.now from n }
+#[tactic(auto, unfolding(crate::specs::Steps::ring_centre))]
+fn ring_centre(other: Box, ring: &Ring) -> bool
+    requires { BoxInPlaces other × (0 < ring.now.size) }
+    ensures { result ≡ ring_centre other ring.now.outline.now ring.now.from ring.now.size }
 {
-    if !covers_box(stretch_box(xs, from, n), other) {
-        return false;
-    }
-    ring_encloses(other, xs, from, n)
+    covers_box(ring.own_box(), other) && ring.encloses(other)
 }
 
-fn region_centre(other: Box, outline: &[i32], ends: &[u16]) -> bool
-    requires { BoxInPlaces other × Keeps 4 (region_of outline.now ends.now) }
-    ensures { result ≡ region_centre other (region_of outline.now ends.now) }
+fn region_centre(other: Box, outline: Outline) -> bool
+    requires { BoxInPlaces other × Keeps 4 (drawn_by outline) }
+    ensures { result ≡ region_centre other (drawn_by outline.entry) }
 {
-    let mut r: usize = 0;
-    while r < ends.len() {
-        if ring_centre(other, outline, start_of(ends, r), size_of(ends, r)) {
+    for r in 0..outline.ends.len() {
+        if ring_centre(other, &ring_of(outline, r)) {
             return true;
         }
-        r += 1;
     }
     false
 }
 
 // What a region with the box `own` marks: cells by its edges, and the other's box by the centre clause.
-fn region_drawn(own: Box, other: Box, g: GridLines, outline: &[i32], ends: &[u16]) -> Marked
-    requires { (g.rows ≤ 3) × BoxInPlaces other × Keeps 4 (region_of outline.now ends.now) }
-    ensures { result ≡ marked_by own other g (region_of outline.now ends.now) }
+fn region_drawn(own: Box, other: Box, g: GridLines, outline: Outline) -> Marked
+    requires { (g.rows ≤ 3) × BoxInPlaces other × Keeps 4 (drawn_by outline) }
+    ensures { result ≡ marked_by own other g (drawn_by outline.entry) }
 {
-    let cells = region_marks(own, g, outline, ends);
-    let centre = region_centre(other, outline, ends);
+    let cells = region_marks(own, g, outline);
+    let centre = region_centre(other, outline);
     Marked { cells, centre }
 }
 
@@ -347,81 +321,35 @@ fn cells_drawn(g: GridLines, a: Box, b: Box, first: Marked, second: Marked) -> [
     ensures { result ≡ tab (λ c. value_by a b first second (c / 3) (c % 3)) 9 }
 {
     let mut cells = [0u8; 9];
-    let mut k: usize = 0;
-    while k < CELLS {
+    for k in 0..CELLS {
         cells[k] = cell_drawn(g, a, b, first, second, k / 3, k % 3);
-        k += 1;
     }
     cells
 }
 
-fn refused(number: u16, region: u16, ring: u16) -> DrawnMatrix
-    ensures { result ≡ refused_with number region ring }
-{
-    let cells = [0u8; 9];
-    DrawnMatrix {
-        number,
-        region,
-        ring,
-        rows: 0,
-        columns: 0,
-        cells,
-    }
-}
-
-// The refusal of a region that the check does not accept.
-fn refusal(checked: Checked, region: u16) -> DrawnMatrix
-    ensures { result ≡ or_refused checked region (refused_with 0 0 0) }
-{
-    match checked {
-        Checked::Accepted => refused(0, 0, 0),
-        Checked::Refused { number, ring } => refused(number, region, ring),
-    }
-}
-
 // The answer for two regions that are known to be accepted.
-pub fn matrix_drawn(
-    first: &[i32],
-    first_ends: &[u16],
-    second: &[i32],
-    second_ends: &[u16],
-) -> DrawnMatrix
-    requires { Keeps 4 (region_of first.now first_ends.now) × Keeps 4 (region_of second.now second_ends.now) }
-    ensures { result ≡ drawn_for (region_box (region_of first.now first_ends.now)) (region_box (region_of second.now second_ends.now))
-        (region_of first.now first_ends.now) (region_of second.now second_ends.now) }
+pub fn matrix_drawn(first: Outline, second: Outline) -> SizedMatrix
+    requires { Keeps 4 (drawn_by first) × Keeps 4 (drawn_by second) }
+    ensures { drawn_with result ≡ drawn_for (region_box (drawn_by first.entry)) (region_box (drawn_by second.entry))
+        (drawn_by first.entry) (drawn_by second.entry) }
 {
-    let a = region_box(first, first_ends);
-    let b = region_box(second, second_ends);
+    let a = region_box(first);
+    let b = region_box(second);
     let g = grid_of(a, b);
-    let one = region_drawn(a, b, g, first, first_ends);
-    let two = region_drawn(b, a, g, second, second_ends);
+    let one = region_drawn(a, b, g, first);
+    let two = region_drawn(b, a, g, second);
     let cells = cells_drawn(g, a, b, one, two);
-    DrawnMatrix {
-        number: 0,
-        region: 0,
-        ring: 0,
+    SizedMatrix {
         rows: g.rows,
         columns: g.columns,
         cells,
     }
 }
 
-// The drawn matrix of two regions. The first region is checked wholly before the second.
-pub fn drawn_of(
-    first: &[i32],
-    first_ends: &[u16],
-    second: &[i32],
-    second_ends: &[u16],
-) -> DrawnMatrix
-    ensures { result ≡ drawn_of (region_of first.now first_ends.now) (region_of second.now second_ends.now) }
+// The drawn matrix of two regions. The first region is checked wholly before the second (`check_both`, as in the pair call).
+pub fn drawn_of(first: Outline, second: Outline) -> Result<SizedMatrix, RefusedRegion>
+    ensures { matrix_in result ≡ drawn_of (drawn_by first.entry) (drawn_by second.entry) }
 {
-    let one = check_region(first, first_ends);
-    let Checked::Accepted = one else {
-        return refusal(one, 1);
-    };
-    let two = check_region(second, second_ends);
-    let Checked::Accepted = two else {
-        return refusal(two, 2);
-    };
-    matrix_drawn(first, first_ends, second, second_ends)
+    check_both(first, second)?;
+    Ok(matrix_drawn(first, second))
 }

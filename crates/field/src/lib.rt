@@ -1,16 +1,15 @@
 // One parcel of a good card as a picture needs it: its slot, its ring ends and its coordinates.
 #![tactic(auto)]
 
-ghost use Rattle.std.specs.Prelude.{◌≡◌, ◌≤◌, ◌<◌};
+ghost use Rattle.std.specs.Prelude.{◌≡◌, ◌<◌, IfSome};
+ghost use Rattle.std.specs.Option.{unwrap_or};
 ghost use Rattle.card.specs.Reading.{parcel_count, entry_of};
-ghost use Rattle.card.specs.CardNumber.{card_number};
 ghost use Rattle.field.specs.Fields.{Carries};
 
-use card::{parcel_count, slot_at};
-use contents::{MOST_NUMBERS, read_ends, read_numbers};
+use contents::{GoodCard, MOST_NUMBERS};
 use region::MOST_RINGS;
 
-// What stands behind the last ring end and behind the last coordinate is 0.
+// What stands behind the last ring end and behind the last coordinate is 0. Memory is fixed, so a list has room for the longest.
 #[derive(Clone, Copy)]
 pub struct Field {
     pub slot: u16,
@@ -19,23 +18,15 @@ pub struct Field {
     pub numbers: [i32; MOST_NUMBERS],
 }
 
-// How many parcels a good card has.
-pub fn fields_on(card: &[u8]) -> usize
-    requires { card_number card.now ≡ 0 }
-    ensures { (result ≡ parcel_count card.now) × (result ≤ 32) }
+pub fn field_at(card: &GoodCard, k: usize) -> Field
+    requires { k < parcel_count card.now.bytes.now }
+    ensures { Carries card.now.bytes.now k result }
 {
-    parcel_count(card)
-}
-
-pub fn field_at(card: &[u8], k: usize) -> Field
-    requires { (card_number card.now ≡ 0) × (k < parcel_count card.now) }
-    ensures { Carries card.now k result }
-{
-    let slot = slot_at(card, k);
-    let mut ends = [0u16; MOST_RINGS];
-    let rings = read_ends(card, k, &mut ends);
-    let mut numbers = [0i32; MOST_NUMBERS];
-    read_numbers(card, k, &mut numbers);
+    let parcel = card.parcel(k);
+    let slot = card.slot_at(k);
+    let rings = parcel.rings;
+    let ends = parcel.ends;
+    let numbers = parcel.numbers;
     Field {
         slot,
         rings,
@@ -44,18 +35,15 @@ pub fn field_at(card: &[u8], k: usize) -> Field
     }
 }
 
-// The place of the parcel in this slot among those of the card, or how many there are.
-pub fn entry_of(card: &[u8], slot: u16) -> usize
-    requires { card_number card.now ≡ 0 }
-    ensures { result ≡ entry_of card.now slot }
+// The place of the parcel in this slot among those of the card.
+pub fn entry_of(card: &GoodCard, slot: u16) -> Option<usize>
+    ensures value { unwrap_or result (parcel_count card.now.bytes.now) ≡ entry_of card.now.bytes.now slot }
+    ensures there { IfSome result (λ k. k < parcel_count card.now.bytes.now) }
 {
-    let parcels = fields_on(card);
-    let mut k = 0;
-    while k < parcels {
-        if slot_at(card, k) == slot {
-            return k;
+    for k in 0..card.parcel_count() {
+        if card.slot_at(k) == slot {
+            return Some(k);
         }
-        k += 1;
     }
-    parcels
+    None
 }

@@ -1,114 +1,88 @@
-// The input, in chunks, and the lines in it; the words that requests begin with, and the outlines and cards in a line.
+// The input, in chunks, and the lines in it; and what is left of a line: its words, and the outlines and cards that they make.
 #![tactic(auto)]
 
-pub mod cards;
-pub mod names;
-pub mod outlines;
+mod request;
+mod rest;
 
-use answers::fronts;
+ghost use Rattle.std.specs.Prelude.{◌≤◌};
+ghost use Rattle.input.specs.declared.TheConstants.{CHUNK, LINE};
+
+pub use request::Request;
+pub use rest::{Number, Rest};
 use std::io::Read;
 use words::LINE_FEED;
 
-// Where the reading stands: the bytes of the chunk from `from` to `to` are still to be taken; `held` bytes of the line have been; answers
-// are written up to `at`; whether the line is whole, and whether the input is over.
-#[derive(Clone, Copy)]
-pub struct Place {
-    pub from: usize,
-    pub to: usize,
-    pub held: usize,
-    pub at: usize,
-    pub is_line: bool,
-    pub is_over: bool,
+// The bytes that a line may have.
+const LONGEST_LINE: usize = 65535;
+// The bytes that are kept of a line: one more, by which a line is told that is too long.
+const LINE: usize = 65536;
+
+const CHUNK: usize = 65536;
+
+// Where the reading stands: the bytes of the chunk from `from` to `to` are still to be taken; `held` bytes of the line have been.
+#[derive(Drop)]
+pub struct Input {
+    chunk: [u8; CHUNK],
+    from: usize,
+    to: usize,
+    line: [u8; LINE],
+    held: usize,
+    ghost taken: { from ≤ to },
+    ghost in_chunk: { to ≤ CHUNK },
+    ghost in_line: { held ≤ LINE },
 }
 
-pub fn start() -> Place {
-    Place {
-        from: 0,
-        to: 0,
-        held: 0,
-        at: 0,
-        is_line: false,
-        is_over: false,
-    }
-}
-
-// Takes the next line of the chunk; at its end sends the answers and reads on. What comes is a line, the end of the input, whose last line
-// may lack its line feed, or neither.
-pub fn next_piece(
-    from: &mut impl Read,
-    to: &impl Print,
-    before: Place,
-    chunk: &mut [u8; 65536],
-    line: &mut [u8; 65536],
-    out: &[u8],
-) -> Place {
-    let p = take_line(before, chunk, line);
-    if p.is_line {
-        return p;
-    }
-    answers::send(to, out, p.at);
-    read_on(from, p, chunk)
-}
-
-// Takes the bytes of the chunk up to a line feed, or to its end.
-fn take_line(p: Place, chunk: &[u8; 65536], line: &mut [u8; 65536]) -> Place {
-    let rest = fronts::bytes(chunk, p.to);
-    let mut held = p.held;
-    let mut i = p.from;
-    while i < rest.len() {
-        if rest[i] == LINE_FEED {
-            return Place {
-                from: i + 1,
-                to: p.to,
-                held,
-                at: p.at,
-                is_line: true,
-                is_over: false,
-            };
+impl Input {
+    pub fn new() -> Input {
+        Input {
+            chunk: [0; CHUNK],
+            from: 0,
+            to: 0,
+            line: [0; LINE],
+            held: 0,
         }
-        held = keep(line, held, rest[i]);
-        i += 1;
     }
-    Place {
-        from: i,
-        to: p.to,
-        held,
-        at: p.at,
-        is_line: false,
-        is_over: false,
+
+    // Takes the bytes of the chunk up to a line feed, or to its end, and answers whether there was one: the line is whole then.
+    pub fn take_line(&mut self) -> bool {
+        let chunk: &[u8] = &self.chunk;
+        let rest = &chunk[self.from..self.to];
+        let feed = rest.iter().position(|byte| *byte == LINE_FEED);
+        let taken = feed.unwrap_or(rest.len());
+        self.held = keep(&mut self.line, self.held, &rest[..taken]);
+        self.from = self.to.min(self.from + taken + 1);
+        feed.is_some()
+    }
+
+    // Reads the next chunk, and answers whether there was one: the input is over where nothing comes, as after a read that failed.
+    pub fn read_on(&mut self, from: &mut impl Read) -> bool {
+        let count = from.read(&mut self.chunk).unwrap_or(0);
+        self.from = 0;
+        self.to = count;
+        count != 0
+    }
+
+    // The bytes of the line that were taken, unless it is too long.
+    pub fn line(&self) -> Option<&[u8]> {
+        if LONGEST_LINE < self.held {
+            return None;
+        }
+        Some(&self.line[..self.held])
+    }
+
+    // A new line begins.
+    pub fn next_line(&mut self) {
+        self.held = 0;
     }
 }
 
-// One byte more of a line. Where the line is full it stays so, which tells that it is too long.
-fn keep(line: &mut [u8; 65536], held: usize, byte: u8) -> usize {
-    if line.len() <= held {
-        return held;
-    }
-    line[held] = byte;
-    held + 1
-}
-
-// After an answer up to `at` a new line begins, unless the input is over.
-pub fn next_line(p: Place, at: usize) -> Place {
-    Place {
-        from: p.from,
-        to: p.to,
-        held: 0,
-        at,
-        is_line: false,
-        is_over: p.is_over,
-    }
-}
-
-// Reads the next chunk; the input is over where nothing comes, as after a read that failed.
-fn read_on(from: &mut impl Read, p: Place, chunk: &mut [u8]) -> Place {
-    let n = from.read(chunk).unwrap_or(0);
-    Place {
-        from: 0,
-        to: n,
-        held: p.held,
-        at: 0,
-        is_line: false,
-        is_over: n == 0,
-    }
+// Bytes more of a line. Where the line is full it stays so.
+fn keep(line: &mut [u8; LINE], held: usize, bytes: &[u8]) -> usize
+    requires { held ≤ LINE }
+    ensures { result ≤ LINE }
+{
+    let count = bytes.len().min(LINE - held);
+    let next = held + count;
+    line[held..next].copy_from_slice(&bytes[..count]);
+    next
 }

@@ -7,7 +7,7 @@ ghost use Rattle.io.specs.Counts.{IsPrefixLen};
 
 use std::io::Read;
 
-// How many bytes were read, and whether a read failed, so that there may have been more.
+// How many bytes were read, and whether a read failed, so that there may have been more. No Result: what came before a failure is wanted too.
 #[derive(Clone, Copy)]
 pub struct Input {
     pub count: usize,
@@ -21,6 +21,7 @@ pub fn read_card<R: Read>(from: &mut R, card: &mut [u8]) -> Input
     ensures end { result.failed ≡ false → result.count < length card.new → IsAtEnd (R.remaining from.new) }
 {
     let mut count = 0;
+    // The while: a read brings any number of bytes, so the step is not one.
     while count < card.len() {
         match from.read(&mut card[count..]) {
             Ok(0) => {

@@ -1,9 +1,11 @@
 pub mod Stores
 mod Blocks
+pub mod Middle
 mod Cross
 pub mod RightLists
 pub mod Slots
 pub mod Undamaged
+pub mod Whole
 pub mod SlotTests
 pub mod Refusing
 pub mod Written

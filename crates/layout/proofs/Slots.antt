@@ -1,5 +1,5 @@
 -- What is read from the slots of any sheet.
---   keeps_sized     a region that keeps rules 1 to 4 has its sizes;  few_rings, few_vertices  a parcel that does has as few as it may
+--   keeps_sized     a region that keeps rules 1 to 4 has its sizes;  few_rings, few_vertices, few_coordinates  a parcel that does has as few as it may
 --   parcel_empty, parcel_there    what stands in a slot that is empty, and in one that is not
 --   occupied_in, ends_in_lem, coordinates_in_lem  whether a parcel is there, its ring ends and its coordinates, by the lists
 --   rings_length, coordinates_length_lem  how many of them there are
@@ -37,6 +37,10 @@ few_rings (outline R) kept = (keeps_sized R kept).few
 pub few_vertices : (p : Parcel) → ParcelKeeps 4 p → last_end (end_list p) ≤ most_vertices
 few_vertices nothing kept = omega arith
 few_vertices (outline R) kept = (keeps_sized R kept).small
+
+pub few_coordinates : (p : Parcel) → ParcelKeeps 4 p → length (coordinate_list p) ≤ room
+few_coordinates nothing kept = omega arith
+few_coordinates (outline R) kept = let size = keeps_sized R kept in omega (arith, size.small, size.listed)
 
 -- ---- one slot
 module _ (xs : List ℤ) (records : List ℕ) (i : ℕ) where

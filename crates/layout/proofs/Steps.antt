@@ -1,6 +1,6 @@
 -- The steps that write a parcel, and what they come to.
 --   outline_parcel   the two lists of a region that keeps rules 1 to 4 are an outline
---   ends_few         the ring ends that are written are few
+--   ends_few, vertices_few    the ring ends and the coordinates that are written are few
 --   whole_written    once the room and the record are written, the slots may be read
 --   boxed_written    and where the boxes of what stood were at hand, those of what then stands are
 --   written          once the row and the column are written too, it is the sheet with that parcel in its slot
@@ -18,6 +18,7 @@ use borrow.Author.Tests.{eqb-true, ne_eqb}
 use Rattle.plane.specs.Choice.{pick}
 use Rattle.plane.specs.Folds.{turns}
 use Rattle.plane.specs.Lists.{stores}
+use Rattle.plane.specs.declared.Box.{Box}
 use Rattle.plane.proofs.Logic.{and_means}
 use Rattle.plane.proofs.Lists.{tab_same}
 use Rattle.region.specs.Region.{Region, Parcel, nothing, outline, most_rings}
@@ -33,7 +34,7 @@ use Rattle.layout.specs.BoxList.{box_at, box_found, Boxed}
 use Rattle.layout.proofs.Blocks.{stores_block}
 use Rattle.layout.proofs.Cross.{cross_tab}
 use Rattle.layout.proofs.BoxList.{found_length, found_own, found_other}
-use Rattle.layout.proofs.Slots.{keeps_sized, few_rings}
+use Rattle.layout.proofs.Slots.{keeps_sized, few_rings, few_coordinates}
 use Rattle.layout.proofs.Undamaged.{undamaged_whole}
 use Rattle.layout.proofs.Written.{with_lists, with_undamaged, parcel_standing}
 
@@ -69,6 +70,9 @@ module _ (s : Sheet) (i : ℕ) (R : Region) (ready : Ready s i (parcel_of R)) wh
   pub ends_few : length R.ends ≤ most_rings
   ends_few = rw (ends_of R) at (few_rings (parcel_of R) ready.keeps)
 
+  pub vertices_few : length R.coordinates ≤ room
+  vertices_few = rw (coordinates_of R) at (few_coordinates (parcel_of R) ready.keeps)
+
   after : Sheet
   after = with_parcel s i (parcel_of R)
 
@@ -97,9 +101,9 @@ module _ (s : Sheet) (i : ℕ) (R : Region) (ready : Ready s i (parcel_of R)) wh
     unfolding after
     parcel_there k l = ap₂ (λ (a : List ℤ) (b : List ℕ). in_slot a b k) numbers_written entries_written ∙ parcel_standing s i (parcel_of R) ready k l
 
-    pub boxed_written : {old new : List ℕ} → Boxed old s.coordinates s.records → new ≡ box_found xs records i old → Boxed new xs records
+    pub boxed_written : {old new : List Box} → Boxed old s.coordinates s.records → new ≡ box_found xs records i old → Boxed new xs records
     boxed_written {old} boxed e =
-        subst (λ (l : List ℕ). Boxed l xs records) (sym e) (record { listed = found_length xs records i old ∙ boxed.listed; each = λ k l Q q. go k l Q q (ℕ_discrete k i) })
+        subst (λ (l : List Box). Boxed l xs records) (sym e) (record { listed = found_length xs records i old ∙ boxed.listed; each = λ k l Q q. go k l Q q (ℕ_discrete k i) })
       where
         go : (k : ℕ) → k < slots → (Q : Region) → in_slot xs records k ≡ outline Q → Dec (k ≡ i) → box_at (box_found xs records i old) k ≡ region_box Q
         go k l Q q (yes p) = rw p (found_own xs records i old boxed.listed ready.change.slot_in Q (rw p at q))

@@ -3,6 +3,7 @@
 --   undamaged_means   the tests of rule 12 find nothing exactly where the sheet is undamaged in the document's words
 --   slot_lists        the lists in which the outlines lie have their lengths
 --   undamaged_stand   what stands on an undamaged sheet may stand;  stand_undamaged  and back;  undamaged_whole  so it may be read
+--   slots_whole       the same where no slot is damaged, whatever the relations
 use mathlib.Core.Path.{◌≡◌, refl, sym, subst}
 use mathlib.Core.Logic.{◌↔◌}
 use mathlib.Core.Bool.{Bool, true, false, not, ◌&&◌, ◌||◌}
@@ -11,7 +12,7 @@ use Prim.Native.Nat.{ℕ, suc, ◌<◌, ◌≤◌}
 use native.Mathlib.Omega.{arith}
 use lib.Dec.{ltb}
 use lib.IntN.{ℤ}
-use lib.ListN.{length}
+use lib.ListN.{length, replicate, length-replicate}
 use borrow.Author.Tests.{ltb-false, le-ltb, eqb-false}
 use Rattle.plane.specs.Folds.{any_to}
 use Rattle.plane.proofs.Folds.{any_none}
@@ -21,7 +22,7 @@ use Rattle.region.specs.Check.{breaks_at}
 use Rattle.region.proofs.Keeps.{keeps_more, keeps_fewer, counted_keeps, listed_keeps}
 use Rattle.region.proofs.Search.{or_false, none_any}
 use Rattle.region.proofs.Tests.{keeps_passes, passes_keeps}
-use Rattle.layout.specs.Sheet.{Sheet, slots, RightLists}
+use Rattle.layout.specs.Sheet.{Sheet, sheet_of, slots, relations_length, RightLists}
 use Rattle.layout.specs.Standing.{ParcelKeeps, StandTogether}
 use Rattle.layout.specs.Slots.{rings_in, empty_in, region_in, in_slot, parcel_at}
 use Rattle.layout.specs.Damage.{Undamaged, breaks_rule, damaged_at, damaged}
@@ -129,3 +130,14 @@ module _ (s : Sheet) (right : RightLists s) where
     where
       at : any_to (damaged_at s.coordinates s.records) slots ≡ false → (i : ℕ) → i < slots → (rings_in s.records i ≤ most_rings) × ParcelKeeps 4 (parcel_at s i)
       at h i l = (undamaged_at s.coordinates s.records i slot_lists l).0 (none_any (damaged_at s.coordinates s.records) slots i h l)
+
+-- where no slot is damaged every slot may be read, whatever the relations
+pub slots_whole : (xs : List ℤ) (records : List ℕ) → SlotLists xs records → any_to (damaged_at xs records) slots ≡ false → Whole xs records
+unfolding damaged
+slots_whole xs records right h = undamaged_whole s lists ((undamaged_means s lists).0 h)
+  where
+    s : Sheet
+    s = sheet_of xs records (replicate relations_length 0)
+
+    lists : RightLists s
+    lists = record { coordinate_count = right.coordinate_count; record_count = right.record_count; relation_count = length-replicate {A = ℕ} relations_length 0 }

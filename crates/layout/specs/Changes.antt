@@ -11,7 +11,8 @@ use Rattle.std.specs.Prelude.{◌≡◌, ◌≢◌, ◌||◌, ℕ, ◌/◌, ◌%
 use Rattle.plane.specs.Choice.{pick}
 use Rattle.plane.specs.Lists.{tab}
 use Rattle.region.specs.Region.{Parcel}
-use Rattle.region.specs.Refusals.{number_if, or_else, slot_number, sheet_lists, sheet_damaged}
+use Rattle.region.specs.declared.refusals.Refusal.TheVariants.{SlotNumber, SheetLists, SheetDamaged}
+use Rattle.region.specs.Refusals.{number_if, or_else}
 use Rattle.layout.specs.Sheet.{Sheet, slots, last_slot, room, record_length, coordinates_length, records_length, relations_length, RightLists, wrong_lists}
 use Rattle.layout.specs.Standing.{end_list, coordinate_list, instead}
 use Rattle.layout.specs.Layout.{record_number, cell_of}
@@ -38,10 +39,10 @@ pub record TouchesOnly (i : ℕ) (s t : Sheet) : Type 0 where
   pub cells : (k : ℕ) → k / slots ≢ i → k % slots ≢ i → get_or t.relations k 0 ≡ get_or s.relations k 0
 
 unfoldable pub change_number : Sheet → ℕ → ℕ
-change_number s i = or_else (number_if (wrong_lists s) sheet_lists) (or_else (number_if (ltb last_slot i) slot_number) (number_if (damaged s) sheet_damaged))
+change_number s i = or_else (number_if (wrong_lists s) SheetLists) (or_else (number_if (ltb last_slot i) SlotNumber) (number_if (damaged s) SheetDamaged))
 
 unfoldable pub whole_number : Sheet → ℕ
-whole_number s = or_else (number_if (wrong_lists s) sheet_lists) (number_if (damaged s) sheet_damaged)
+whole_number s = or_else (number_if (wrong_lists s) SheetLists) (number_if (damaged s) SheetDamaged)
 
 pub record Changeable (s : Sheet) (i : ℕ) : Type 0 where
   pub lists : RightLists s

@@ -2,7 +2,6 @@
 //   SLOTS, LAST_SLOT                   how many slots there are, and the highest slot number
 //   ROOM, RECORD                       how many coordinates, and how many numbers of a record, belong to a slot
 //   COORDINATES, RECORDS, RELATIONS    how long the three lists are
-//   BOXES                              how long the list of boxes is, which is kept beside the sheet while parcels are written
 //   SELF_CELL                          the cell of a parcel with itself: no tile
 pub const SLOTS: usize = 32;
 
@@ -17,7 +16,5 @@ pub const COORDINATES: usize = 4096;
 pub const RECORDS: usize = 288;
 
 pub const RELATIONS: usize = 1024;
-
-pub const BOXES: usize = 128;
 
 pub const SELF_CELL: u16 = 0;

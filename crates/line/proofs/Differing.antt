@@ -1,17 +1,25 @@
 -- What ` differ` says. That it is never said: lines/proofs/Differ, `never_differs`.
 --   differ_means      two answers do not differ exactly where rows, columns and the nine cells are the same
-use mathlib.Core.Path.{◌≡◌, refl, sym}
+--   differ_is         the test on the lists of cells at once is that on each cell
+use mathlib.Core.Path.{◌≡◌, refl, sym, ◌∙◌, ap}
+use mathlib.Core.List.{List}
 use mathlib.Core.Logic.{◌↔◌}
 use mathlib.Core.Bool.{Bool, true, false, not, ◌||◌}
 use Prim.Native.Nat.{ℕ, ◌<◌}
+use native.Mathlib.Omega.{arith}
+use Rattle.std.proofs.Math.Bool.{or_assoc}
+use Rattle.std.proofs.lemmas.Grind.{same_number_lists}
 use borrow.Author.Tests.{eq-eqb, eqb-true}
 use lib.Dec.{eqb}
-use lib.ListN.{get_or}
+use lib.ListN.{length, get_or}
+use lib.Pointwise.{pointwise}
+use Rattle.std.proofs.lemmas.Slice.Eq.{slice_eq-Decides}
+use Rattle.std.proofs.lemmas.Bool.Decides.{Decides-eqb}
 use Rattle.plane.specs.Folds.{any_to}
 use Rattle.plane.proofs.Folds.{any_none, any_means}
-use Rattle.plane.proofs.Logic.{never, clash, is_false}
-use Rattle.pair.specs.declared.Answer.{Answer}
-use Rattle.drawn.specs.declared.DrawnMatrix.{DrawnMatrix}
+use Rattle.plane.proofs.Logic.{never, clash, is_false, is_true}
+use Rattle.pair.specs.Answer.{Answer}
+use Rattle.drawn.specs.Drawn.{DrawnMatrix}
 use Rattle.line.specs.Differ.{differ}
 
 neither : (x y z : Bool) → (x || (y || z) ≡ false) ↔ ((x ≡ false) × (y ≡ false) × (z ≡ false))
@@ -45,3 +53,27 @@ differ_means a d =
         any_none (other_at a d) 9 (λ k l. (same_means (get_or a.cells k 0) (get_or d.cells k 0)).1 (h.2 k l)),
       ),
     )
+
+-- ---- the cells at once
+abbrev other : List ℕ → List ℕ → ℕ → Bool
+other xs ys k = not (eqb (get_or xs k 0) (get_or ys k 0))
+
+cells_is : (xs ys : List ℕ) → length xs ≡ 9 → length ys ≡ 9 → not (pointwise eqb xs ys) ≡ any_to (other xs ys) 9
+cells_is xs ys m n = go (pointwise eqb xs ys) refl
+  where
+    go : (t : Bool) → pointwise eqb xs ys ≡ t → not t ≡ any_to (other xs ys) 9
+    go true e =
+        let same : xs ≡ ys = (slice_eq-Decides Decides-eqb xs ys true (sym e)).0 refl in
+        sym (any_none (other xs ys) 9 (λ k h. (same_means (get_or xs k 0) (get_or ys k 0)).1 (ap (λ (l : List ℕ). get_or l k 0) same)))
+    go false e =
+        sym (is_true (any_to (other xs ys) 9) (λ f. never (sym e ∙ (slice_eq-Decides Decides-eqb xs ys (pointwise eqb xs ys) refl).1 (alike f))))
+      where
+        alike : any_to (other xs ys) 9 ≡ false → xs ≡ ys
+        alike f =
+            same_number_lists xs ys (m ∙ sym n)
+            (λ k h. (same_means (get_or xs k 0) (get_or ys k 0)).0 (is_false (other xs ys k) (λ d. clash (any_to (other xs ys) 9) ((any_means (other xs ys) 9).1 (k, omega (arith, h, m), d)) f)))
+
+pub differ_is : (a : Answer) (d : DrawnMatrix) → length a.cells ≡ 9 → length d.cells ≡ 9 → (t : Bool) → t ≡ not (pointwise eqb a.cells d.cells)
+    → ((not (eqb a.rows d.rows) || not (eqb a.columns d.columns)) || t) ≡ differ a d
+unfolding differ
+differ_is a d m n t e = rw (e, cells_is a.cells d.cells m n) (or_assoc (not (eqb a.rows d.rows)) (not (eqb a.columns d.columns)) _)

@@ -9,8 +9,8 @@ use Prim.Native.Nat.{ℕ, ◌+◌, ◌≤◌}
 use native.Mathlib.Omega.{arith}
 use lib.ListN.{length, length-append}
 use Rattle.plane.specs.Choice.{pick}
-use Rattle.pair.specs.declared.Answer.{Answer}
-use Rattle.drawn.specs.declared.DrawnMatrix.{DrawnMatrix}
+use Rattle.pair.specs.Answer.{Answer}
+use Rattle.drawn.specs.Drawn.{DrawnMatrix}
 use Rattle.names.specs.Names.{names_of, B, O}
 use Rattle.names.specs.Numbers.{space, decimal}
 use Rattle.names.proofs.Decimals.{decimal_le}

@@ -3,8 +3,8 @@
 --   differ_word      the word, with the space before it
 use Rattle.std.specs.Prelude.{Bool, not, ◌||◌, List, [], ◌∷◌, ℕ, eqb, get_or}
 use Rattle.plane.specs.Folds.{any_to}
-use Rattle.pair.specs.declared.Answer.{Answer}
-use Rattle.drawn.specs.declared.DrawnMatrix.{DrawnMatrix}
+use Rattle.pair.specs.Answer.{Answer}
+use Rattle.drawn.specs.Drawn.{DrawnMatrix}
 use Rattle.names.specs.Numbers.{space}
 
 unfoldable pub differ : Answer → DrawnMatrix → Bool

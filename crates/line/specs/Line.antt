@@ -5,8 +5,8 @@
 --   pair_line p q a d         the line for the parcels of slots p and q, whose pair answer is a and whose drawn matrix is d
 use Rattle.std.specs.Prelude.{Bool, List, [], ◌∷◌, ◌++◌, ℕ}
 use Rattle.plane.specs.Choice.{pick}
-use Rattle.pair.specs.declared.Answer.{Answer}
-use Rattle.drawn.specs.declared.DrawnMatrix.{DrawnMatrix}
+use Rattle.pair.specs.Answer.{Answer}
+use Rattle.drawn.specs.Drawn.{DrawnMatrix}
 use Rattle.names.specs.Names.{names_of, B, O}
 use Rattle.names.specs.Numbers.{space, decimal}
 use Rattle.line.specs.Differ.{differ, differ_word}

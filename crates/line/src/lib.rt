@@ -1,50 +1,24 @@
 // The line of one pair in a list: two slots, tiles, directions, pieces; and whether the pair's two matrices differ.
+// A buffer and a place stay two parameters, as in `words`.
 #![tactic(auto)]
 
-ghost use Rattle.std.specs.Prelude.{◌≡◌, not, ◌+◌, ◌≤◌, eqb, length, get_or};
-ghost use Rattle.plane.specs.Folds.{any_to};
+ghost use Rattle.std.specs.Prelude.{◌≡◌, ◌+◌, ◌≤◌, length};
 ghost use Rattle.names.specs.Steps.{Put};
+ghost use Rattle.pair.specs.Answer.{answer_with};
+ghost use Rattle.drawn.specs.Drawn.{drawn_with};
 ghost use Rattle.line.specs.Differ.{differ};
 ghost use Rattle.line.specs.Line.{last_words, pair_line};
 
-use drawn::DrawnMatrix;
-use names::{put_number, put_set, put_text};
+use matrix::SizedMatrix;
+use names::{DIRECTIONS_MIDDLE, TILES_MIDDLE, put_number, put_set, put_text};
 use pair::Answer;
 use words::{LINE_FEED, SPACE};
 
-// Bit 4 is written B in tiles, and O in directions.
-const TILES_MIDDLE: u8 = 66;
-
-const DIRECTIONS_MIDDLE: u8 = 79;
-
-const CELLS: usize = 9;
-
-fn cells_differ(cells: [u8; 9], drawn: [u8; 9]) -> bool
-    ensures { result ≡ any_to (λ k. not (eqb (get_or cells k 0) (get_or drawn k 0))) 9 }
-{
-    let mut k: usize = 0;
-    while k < CELLS {
-        if cells[k] != drawn[k] {
-            return true;
-        }
-        k += 1;
-    }
-    false
-}
-
 // Is the matrix of the answer another than the drawn one?
-fn differ(a: Answer, d: DrawnMatrix) -> bool
-    ensures { result ≡ differ a d }
+fn differ(a: Answer, d: SizedMatrix) -> bool
+    ensures { result ≡ differ (answer_with a) (drawn_with d) }
 {
-    if a.rows != d.rows {
-        return true;
-    }
-    if a.columns != d.columns {
-        return true;
-    }
-    let cells = a.cells;
-    let drawn = d.cells;
-    cells_differ(cells, drawn)
+    (a.matrix.rows != d.rows) | (a.matrix.columns != d.columns) | (a.matrix.cells != d.cells)
 }
 
 // The pieces, the word of a pair that differs, and the end of the line.
@@ -66,10 +40,10 @@ pub fn put_line(
     primary: u16,
     reference: u16,
     a: Answer,
-    d: DrawnMatrix,
+    d: SizedMatrix,
 ) -> usize
-    requires { from + length (pair_line primary reference a d) ≤ length out.old }
-    ensures { Put out.old from (pair_line primary reference a d) result out.new }
+    requires { from + length (pair_line primary reference (answer_with a) (drawn_with d)) ≤ length out.old }
+    ensures { Put out.old from (pair_line primary reference (answer_with a) (drawn_with d)) result out.new }
 {
     let at = put_number(out, from, primary, SPACE);
     let at = put_number(out, at, reference, SPACE);

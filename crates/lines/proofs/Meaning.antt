@@ -33,7 +33,7 @@ use Rattle.region.specs.Region.{Region}
 use Rattle.region.proofs.Keeps.{keeps_fewer, Sized, sized}
 use Rattle.region.proofs.Ends.{start_le}
 use Rattle.relation.specs.Relation.{RegionBox, RegionHas, RegionPieces}
-use Rattle.pair.specs.declared.Answer.{Answer}
+use Rattle.pair.specs.Answer.{Answer}
 use Rattle.pair.specs.Answer.{given, pair_of}
 use Rattle.pair.specs.Meaning.{Answered, Lies}
 use Rattle.pair.proofs.Laws.{fields_are, some_tile, tile_means, pieces_between, relation_below}

@@ -7,8 +7,7 @@ ghost use Rattle.lines.specs.Listing.{listing};
 mod lines;
 
 use crate::lines::put_rows;
-use card::parcel_count;
-use contents::rules::card_number;
+use contents::GoodCard;
 use names::{put_number, put_text};
 use words::LINE_FEED;
 
@@ -17,12 +16,15 @@ pub fn list(card: &[u8], out: &mut [u8; 131072]) -> usize
     ensures value { result ≡ length (listing card.now) }
     ensures out_after { out.new ≡ listing card.now ++ drop (length (listing card.now)) out.old }
 {
-    let number = card_number(card);
-    if number != 0 {
-        let at = put_text(out, 0, b"refused ");
-        return put_number(out, at, number, LINE_FEED);
+    match GoodCard::read(card) {
+        Ok(card) => {
+            let at = put_text(out, 0, b"parcels ");
+            let at = put_number(out, at, card.parcel_count() as u16, LINE_FEED);
+            put_rows(out, at, &card)
+        }
+        Err(refusal) => {
+            let at = put_text(out, 0, b"refused ");
+            put_number(out, at, u16::from(refusal), LINE_FEED)
+        }
     }
-    let at = put_text(out, 0, b"parcels ");
-    let at = put_number(out, at, parcel_count(card) as u16, LINE_FEED);
-    put_rows(out, at, card)
 }

@@ -10,7 +10,8 @@ use intake::read_card;
 use lines::list;
 use std::io::Read;
 
-// Where the list of an input ends in the buffer, and whether a read of it failed, so that there may have been more.
+// Where the list of an input ends in the buffer, and whether a read of it failed, so that there may have been more. No Result: what was read
+// has its list either way.
 #[derive(Clone, Copy)]
 struct Listed {
     end: usize,
@@ -24,9 +25,8 @@ fn list_input<R: Read>(from: &mut R, out: &mut [u8; 131072]) -> Listed
 {
     let mut card = [0u8; 17037];
     let input = read_card(from, &mut card);
-    let n = input.count;
     Listed {
-        end: list(&card[..n], out),
+        end: list(&card[..input.count], out),
         failed: input.failed,
     }
 }
@@ -39,8 +39,7 @@ fn print_list(from: &mut impl Read, to: &(impl Print + Eprint)) {
     if listed.failed {
         let _ = to.eprintln("listing: the input could not be read to its end");
     }
-    let end = listed.end;
-    if to.write_all(&out[..end]).is_err() {
+    if to.write_all(&out[..listed.end]).is_err() {
         let _ = to.eprintln("listing: the list could not be written to its end");
     }
 }

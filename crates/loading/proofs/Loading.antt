@@ -19,17 +19,20 @@ use lib.ListN.{length}
 use borrow.Author.Tests.{ltb-true, lt-ltb, le-ltb, eqb-true, eq-eqb, ne_eqb}
 use Rattle.plane.specs.Choice.{pick}
 use Rattle.plane.proofs.Folds.{first_hit, first_passes}
+use Rattle.region.specs.declared.refusals.Refusal.TheVariants.{SheetLists}
+use Rattle.region.specs.Refusals.{number_if, or_else}
+use Rattle.region.proofs.OrElse.{or_else_first}
 use Rattle.region.specs.Region.{Parcel, nothing, outline}
-use Rattle.layout.specs.Sheet.{Sheet, wrong_lists}
+use Rattle.plane.specs.declared.Box.{Box}
+use Rattle.layout.specs.Sheet.{Sheet, slots, wrong_lists}
 use Rattle.layout.specs.Standing.{instead, ParcelKeeps, StandTogether}
 use Rattle.layout.specs.Layout.{layout, blank}
 use Rattle.layout.specs.Slots.{parcel_at}
 use Rattle.layout.specs.Changes.{with_parcel, Changeable}
-use Rattle.layout.specs.BoxList.{boxes_length, Boxed}
+use Rattle.layout.specs.BoxList.{Boxed}
 use Rattle.layout.proofs.Standing.{stand_fewer, layout_lists, layout_same, layout_parcel, layout_undamaged, layout_with}
 use Rattle.layout.proofs.Blank.{blank_layout}
 use Rattle.layout.proofs.BoxList.{boxed_empty}
-use Rattle.calls.specs.Changes.{clear, clear_number}
 use Rattle.card.specs.Reading.{parcel_count, slot_at, region_at, entry_of, parcel_in}
 use Rattle.card.specs.CardNumber.{card_number}
 use Rattle.card.specs.Good.{GoodCard}
@@ -102,29 +105,32 @@ module _ (b : List ℕ) (good : GoodCard b) where
 pub from_blank : (b : List ℕ) {t : Sheet} → t ≡ blank → t ≡ layout (loaded b 0)
 from_blank b e = e ∙ blank_layout ∙ loaded_none b
 
-pub blank_boxed : (boxes : List ℕ) → length boxes ≡ boxes_length → {t : Sheet} → t ≡ blank → Boxed boxes t.coordinates t.records
+pub blank_boxed : (boxes : List Box) → length boxes ≡ slots → {t : Sheet} → t ≡ blank → Boxed boxes t.coordinates t.records
 blank_boxed boxes h {t} e =
     boxed_empty t.coordinates t.records boxes h
     (λ i l. ap (λ (s : Sheet). parcel_at s i) (e ∙ blank_layout) ∙ layout_parcel (λ k. nothing) (record { each = λ k m. tt }) i l)
 
 -- ---- the call
 module _ (s : Sheet) (b : List ℕ) where
-  pub load_refused : wrong_lists s ≡ true → (11 ≡ load_number s b) × (s ≡ load s b)
-  unfolding load load_number
-  load_refused w = (rw w refl, rw w refl)
+  refused : {n : ℕ} → n ≢ 0 → n ≡ load_number s b → (n ≡ load_number s b) × (s ≡ load s b)
+  unfolding load
+  refused some e = (e, simp (ne_eqb (load_number s b) 0 (λ q. some (e ∙ q))))
 
-  module _ (w : wrong_lists s ≡ false) where
-    pub cleared : {t : Sheet} → t ≡ clear s → t ≡ blank
-    unfolding clear clear_number
-    cleared e = e ∙ rw w refl
+  pub load_refused : {n : ℕ} → n ≢ 0 → n ≡ number_if (wrong_lists s) SheetLists → (n ≡ load_number s b) × (s ≡ load s b)
+  unfolding load_number
+  load_refused some e = refused some (e ∙ sym (or_else_first _ _ (λ q. some (e ∙ q))))
 
-    pub load_wrong : {n : ℕ} → n ≡ card_number b → n ≢ 0 → (n ≡ load_number s b) × (s ≡ load s b)
-    unfolding load load_number
-    load_wrong e z = (rw w e, rw (w, ne_eqb (card_number b) 0 (λ q. z (e ∙ q))) refl)
+  module _ (right : 0 ≡ number_if (wrong_lists s) SheetLists) where
+    next : {n : ℕ} → n ≡ card_number b → n ≡ load_number s b
+    unfolding load_number
+    next e = e ∙ ap (λ (m : ℕ). or_else m (card_number b)) right
 
-    pub load_done : card_number b ≡ 0 → {t : Sheet} → t ≡ layout (parcel_in b) → (0 ≡ load_number s b) × (t ≡ load s b)
-    unfolding load load_number
-    load_done g e = (rw w (sym g), rw (w, g) e)
+    pub load_wrong : {n : ℕ} → n ≢ 0 → n ≡ card_number b → (n ≡ load_number s b) × (s ≡ load s b)
+    load_wrong some e = refused some (next e)
+
+    pub load_done : 0 ≡ card_number b → {t : Sheet} → t ≡ layout (parcel_in b) → (0 ≡ load_number s b) × (t ≡ load s b)
+    unfolding load
+    load_done g e = (next g, simp (eq-eqb (load_number s b) 0 (sym (next g))) e)
 
 -- ---- two layouts have the same lengths
 pub same_lists : (st su : ℕ → Parcel) → StandTogether 4 st → StandTogether 4 su → {s t : Sheet} → s ≡ layout st → t ≡ layout su

@@ -8,7 +8,8 @@ use Prim.Native.Nat.{ℕ}
 use native.Mathlib.Decide.{ℕ_discrete}
 use Rattle.plane.specs.Choice.{pick}
 use Rattle.plane.proofs.Logic.{clash, is_true}
-use Rattle.region.specs.Refusals.{number, sheet_lists}
+use Rattle.region.specs.declared.refusals.Refusal.TheVariants.{SheetLists}
+use Rattle.region.specs.Refusals.{number}
 use Rattle.layout.specs.Sheet.{Sheet, wrong_lists}
 use Rattle.layout.proofs.RightLists.{lists_mean}
 use Rattle.card.specs.CardNumber.{card_number}
@@ -19,7 +20,7 @@ use Rattle.loading.specs.Says.{LoadSays, load_done, load_lists, load_card}
 use Rattle.loading.proofs.Orders.{load_order}
 
 module _ (s : Sheet) (b : List ℕ) where
-  load_by : (t : Bool) → wrong_lists s ≡ t → load_number s b ≡ pick t (number sheet_lists) (card_number b)
+  load_by : (t : Bool) → wrong_lists s ≡ t → load_number s b ≡ pick t (number SheetLists) (card_number b)
   load_by t e = load_order s b ∙ rw e refl
 
   load_back : {n : ℕ} → LoadSays s b n → load_number s b ≡ n

@@ -2,91 +2,75 @@
 #![tactic(auto)]
 
 ghost use Rattle.std.specs.Prelude.{◌≡◌};
-ghost use Rattle.card.specs.CardNumber.{card_number};
 
-use field::{field_at, fields_on};
+use contents::GoodCard;
+use field::field_at;
 use furniture::put_furniture;
 use label::put_label;
 use plot::put_parcels;
 use scale::shape::shape_of;
 use scale::view::{Extent, View, bottom, extent_of, joined, nothing, view_of};
-use svg::{put_foot, put_head};
-use words::put_text;
+use svg::{Page, put_foot, put_head};
 
 pub mod furniture;
 pub mod label;
 
 // Between what places all parcels lie.
-pub fn extent_of_card(card: &[u8]) -> Extent
-    requires { card_number card.now ≡ 0 }
-{
-    let parcels = fields_on(card);
+pub fn extent_of_card(card: &GoodCard) -> Extent {
     let mut e = nothing();
-    let mut k = 0;
-    while k < parcels {
+    for k in 0..card.parcel_count() {
         let f = field_at(card, k);
         e = joined(e, extent_of(f));
-        k += 1;
     }
     e
 }
 
-pub fn put_labels(out: &mut [u8], from: usize, card: &[u8], v: View) -> usize
-    requires { card_number card.now ≡ 0 }
-{
-    let parcels = fields_on(card);
-    let mut at = from;
-    let mut k = 0;
-    while k < parcels {
+// A loop of its own beside that of `put_parcels`, whose contract says what is written of each parcel.
+pub fn put_labels(page: &mut Page, card: &GoodCard, v: View) {
+    for k in 0..card.parcel_count() {
         let f = field_at(card, k);
-        at = put_label(out, at, shape_of(v, f));
-        k += 1;
+        put_label(page, shape_of(v, f));
     }
-    at
 }
 
 // All parcels, in a group whose start says what they have in common: the look of their outlines, and how far they let the ground through.
-pub fn put_filled(out: &mut [u8], from: usize, card: &[u8], v: View, start: &[u8]) -> usize
-    requires { card_number card.now ≡ 0 }
-{
-    let at = put_text(out, from, start);
-    let at = put_parcels(out, at, card, v);
-    put_text(out, at, b"</g>\n")
+pub fn put_filled(page: &mut Page, card: &GoodCard, v: View, start: &str) {
+    write!(page, "{start}");
+    put_parcels(page, card, v);
+    write!(page, "</g>\n");
+}
+
+// How a group of labels starts.
+pub fn start_labels(page: &mut Page) {
+    write!(
+        page,
+        "<g text-anchor='middle' font-weight='bold' stroke='#ffffff' stroke-width='60' stroke-linejoin='round' paint-order='stroke'>\n"
+    );
 }
 
 // All labels, above everything else.
-pub fn put_named(out: &mut [u8], from: usize, card: &[u8], v: View) -> usize
-    requires { card_number card.now ≡ 0 }
-{
-    let at = put_text(
-        out,
-        from,
-        b"<g text-anchor='middle' font-weight='bold' stroke='#ffffff' stroke-width='60' stroke-linejoin='round' paint-order='stroke'>\n",
-    );
-    let at = put_labels(out, at, card, v);
-    put_text(out, at, b"</g>\n")
+pub fn put_named(page: &mut Page, card: &GoodCard, v: View) {
+    start_labels(page);
+    put_labels(page, card, v);
+    write!(page, "</g>\n");
 }
 
 // The whole picture of a card without a pair.
-pub fn put_map(out: &mut [u8], card: &[u8]) -> usize
-    requires { card_number card.now ≡ 0 }
-{
+pub fn put_map(page: &mut Page, card: &GoodCard) {
     let v = view_of(extent_of_card(card));
-    let at = put_head(
-        out,
+    put_head(
+        page,
         bottom(v) + 900,
-        b"<title>Map of parcels: @</title>\n\
-        <desc>Each parcel is filled and labelled with its slot. North is up. A bar shows a length in map units.</desc>\n",
-        &[fields_on(card) as u16],
+        format_args!("Map of parcels: {}", card.parcel_count()),
+        "Each parcel is filled and labelled with its slot. North is up. A bar shows a length in map units.",
     );
-    let at = put_filled(
-        out,
-        at,
+    put_filled(
+        page,
         card,
         v,
-        b"<g stroke-linejoin='round' stroke='#3a3a3a' stroke-width='20' fill-opacity='0.8'>\n",
+        "<g stroke-linejoin='round' stroke='#3a3a3a' stroke-width='20' fill-opacity='0.8'>\n",
     );
-    let at = put_furniture(out, at, v);
-    let at = put_named(out, at, card, v);
-    put_foot(out, at)
+    put_furniture(page, v);
+    put_named(page, card, v);
+    put_foot(page);
 }

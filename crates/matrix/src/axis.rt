@@ -12,12 +12,10 @@ fn place_among(at: [u64; 4], count: usize, v: u64) -> usize
     requires { count ≤ 4 }
     ensures { result ≡ first_of (λ k. leb v (get_or at k 0)) count }
 {
-    let mut k: usize = 0;
-    while k < count {
+    for k in 0..count {
         if v <= at[k] {
             return k;
         }
-        k += 1;
     }
     count
 }
@@ -26,13 +24,11 @@ fn stands_at(at: [u64; 4], count: usize, p: usize, v: u64) -> bool
     requires { count ≤ 4 }
     ensures { result ≡ (ltb p count && eqb (get_or at p 0) v) }
 {
-    if count <= p {
-        return false;
-    }
-    at[p] == v
+    p < count && at[p] == v
 }
 
-// Line k once v is put in at place p and what stands from there on is moved up.
+// Line k once v is put in at place p and what stands from there on is moved up. Each line by itself: moved as a part of a list, the lines
+// past the count would have to be told apart too.
 fn moved_line(at: [u64; 4], p: usize, v: u64, k: usize) -> u64
     requires { k < 4 }
     ensures { result ≡ pick (ltb k p) (get_or at k 0) (pick (eqb k p) v (get_or at (k - 1) 0)) }

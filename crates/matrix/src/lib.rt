@@ -13,7 +13,7 @@ use plane::Box;
 
 mod axis;
 
-// The values of a cell that holds only the first region, only the second, or both.
+// The values of a cell that holds only the first region, only the second, or both: the document's own numbers, which stand in a matrix.
 pub const FIRST: u8 = 1;
 
 pub const SECOND: u8 = 2;
@@ -23,7 +23,7 @@ pub const BOTH: u8 = 3;
 // The cells of a matrix, counted by row.
 pub const CELLS: usize = 9;
 
-// The distinct lines of one axis in rising order; the places past the count are 0.
+// The distinct lines of one axis in rising order; the places past the count are 0. Memory is fixed, so there are four places and a count.
 #[derive(Clone, Copy)]
 pub struct Rising {
     pub count: usize,
@@ -70,17 +70,11 @@ pub fn cell_at(g: GridLines, i: usize, j: usize) -> Box
     }
 }
 
-fn one_if(t: bool) -> u16
-    ensures { (result ≡ one_if t) × (result ≤ 1) }
-{
-    if t { 1 } else { 0 }
-}
-
 // The range of the lines lo and hi just after p.
 fn range_of(lo: u64, hi: u64, p: u64) -> u16
     ensures { (result ≡ range_of lo hi p) × (result ≤ 2) }
 {
-    one_if(lo <= p) + one_if(hi <= p)
+    u16::from(lo <= p) + u16::from(hi <= p)
 }
 
 // The cell holds the region with box a: it lies inside a, and the tile of b that contains it is in the relation.
@@ -108,32 +102,61 @@ fn holds_region(a: Box, b: Box, relation: u16, cell: Box) -> bool
 pub fn value_of(first: bool, second: bool) -> u8
     ensures { result ≡ one_if first + 2 * one_if second }
 {
-    FIRST * one_if(first) as u8 + SECOND * one_if(second) as u8
+    FIRST * u8::from(first) + SECOND * u8::from(second)
 }
 
-fn cell_value(g: GridLines, a: Box, b: Box, r: u16, s: u16, i: usize, j: usize) -> u8
-    requires { g ≡ grid_of a b }
-    ensures { result ≡ cell_value a b r s i j }
-{
-    if g.rows as usize <= i {
-        return 0;
-    }
-    if g.columns as usize <= j {
-        return 0;
-    }
-    let cell = cell_at(g, i, j);
-    value_of(holds_region(a, b, r, cell), holds_region(b, a, s, cell))
+// The matrix with its size, its cells by row; those past its size are 0.
+#[derive(Clone, Copy, PartialEq, Eq)]
+pub struct SizedMatrix {
+    pub rows: u16,
+    pub columns: u16,
+    pub cells: [u8; 9],
 }
 
-fn matrix_row(g: GridLines, a: Box, b: Box, r: u16, s: u16, i: usize) -> [u8; 3]
-    requires { g ≡ grid_of a b }
-    ensures { result ≡ tab (λ j. cell_value a b r s i j) 3 }
-{
-    [
-        cell_value(g, a, b, r, s, i, 0),
-        cell_value(g, a, b, r, s, i, 1),
-        cell_value(g, a, b, r, s, i, 2),
-    ]
+// Two boxes with their grid, and the relation of each region to the other's box.
+#[derive(Clone, Copy)]
+struct Regions {
+    grid: GridLines,
+    a: Box,
+    b: Box,
+    of_a: u16,
+    of_b: u16,
+    ghost gridded: { grid ≡ grid_of a b },
+}
+
+impl Regions {
+    fn cell_value(self, i: usize, j: usize) -> u8
+        ensures { result ≡ cell_value self.a self.b self.of_a self.of_b i j }
+    {
+        let g = self.grid;
+        if g.rows as usize <= i {
+            return 0;
+        }
+        if g.columns as usize <= j {
+            return 0;
+        }
+        let cell = cell_at(g, i, j);
+        value_of(
+            holds_region(self.a, self.b, self.of_a, cell),
+            holds_region(self.b, self.a, self.of_b, cell),
+        )
+    }
+
+    fn row(self, i: usize) -> [u8; 3]
+        ensures { result ≡ tab (λ j. cell_value self.a self.b self.of_a self.of_b i j) 3 }
+    {
+        [
+            self.cell_value(i, 0),
+            self.cell_value(i, 1),
+            self.cell_value(i, 2),
+        ]
+    }
+
+    fn matrix(self) -> [[u8; 3]; 3]
+        ensures { result ≡ matrix_of self.a self.b self.of_a self.of_b }
+    {
+        [self.row(0), self.row(1), self.row(2)]
+    }
 }
 
 // The matrix of two regions: a's box and its relation r to b's, b's box and its relation s to a's.
@@ -141,11 +164,14 @@ pub fn matrix_of(g: GridLines, a: Box, b: Box, r: u16, s: u16) -> [[u8; 3]; 3]
     requires { g ≡ grid_of a b }
     ensures { result ≡ matrix_of a b r s }
 {
-    [
-        matrix_row(g, a, b, r, s, 0),
-        matrix_row(g, a, b, r, s, 1),
-        matrix_row(g, a, b, r, s, 2),
-    ]
+    let regions = Regions {
+        grid: g,
+        a,
+        b,
+        of_a: r,
+        of_b: s,
+    };
+    regions.matrix()
 }
 
 // The nine values by row.
@@ -153,12 +179,8 @@ pub fn flat_of(m: [[u8; 3]; 3]) -> [u8; 9]
     ensures { result ≡ flat_of m }
 {
     let mut cells = [0u8; 9];
-    let mut k: usize = 0;
-    while k < CELLS {
-        let i = k / 3;
-        let j = k % 3;
-        cells[k] = m[i][j];
-        k += 1;
+    for k in 0..CELLS {
+        cells[k] = m[k / 3][k % 3];
     }
     cells
 }

@@ -5,5 +5,5 @@
 mod names;
 mod texts;
 
-pub use names::put_set;
+pub use names::{DIRECTIONS_MIDDLE, TILES_MIDDLE, put_set};
 pub use texts::{put_number, put_text};

@@ -7,6 +7,11 @@ ghost use Rattle.names.specs.Steps.{Put, joint, name_step};
 use crate::texts::{put_byte, put_text};
 use words::{COLON, SPACE};
 
+// Bit 4 is written B in tiles, and O in directions.
+pub const TILES_MIDDLE: u8 = b'B';
+
+pub const DIRECTIONS_MIDDLE: u8 = b'O';
+
 const BITS: usize = 9;
 
 // The name of bit k, where `middle` is the letter of bit 4.
@@ -14,17 +19,19 @@ fn put_name(out: &mut [u8], at: usize, middle: u8, k: usize) -> usize
     requires { (k < 9) × (at + length (name_of middle k) ≤ length out.old) }
     ensures { Put out.old at (name_of middle k) result out.new }
 {
-    match k {
-        0 => put_text(out, at, b"NW"),
-        1 => put_text(out, at, b"N"),
-        2 => put_text(out, at, b"NE"),
-        3 => put_text(out, at, b"W"),
-        4 => put_byte(out, at, middle),
-        5 => put_text(out, at, b"E"),
-        6 => put_text(out, at, b"SW"),
-        7 => put_text(out, at, b"S"),
-        _ => put_text(out, at, b"SE"),
-    }
+    let middle_name = [middle];
+    let names: [&[u8]; 9] = [
+        b"NW",
+        b"N",
+        b"NE",
+        b"W",
+        &middle_name,
+        b"E",
+        b"SW",
+        b"S",
+        b"SE",
+    ];
+    put_text(out, at, names[k])
 }
 
 // A colon, where the word has begun.
@@ -55,10 +62,8 @@ fn put_names(out: &mut [u8], from: usize, middle: u8, set: u16) -> usize
     ensures { Put out.old from (names_of middle set) result out.new }
 {
     let mut at = from;
-    let mut k = 0;
-    while k < BITS {
+    for k in 0..BITS {
         at = put_bit(out, from, at, middle, set, k);
-        k += 1;
     }
     at
 }

@@ -3,6 +3,7 @@ ghost use Rattle.std.specs.Prelude.{[], ◌∷◌, ◌++◌, ◌+◌, ◌≤◌,
 ghost use Rattle.names.specs.Numbers.{decimal};
 ghost use Rattle.names.specs.Steps.{Put};
 
+// Not put_byte of `words`, which leaves out what has no room: here the room is known, and nothing is tested.
 pub fn put_byte(out: &mut [u8], at: usize, byte: u8) -> usize
     requires { at + 1 ≤ length out.old }
     ensures { Put out.old at (byte ∷ []) result out.new }

@@ -2,126 +2,109 @@
 // with the slots that were asked for.
 #![tactic(auto)]
 
-use svg::form::{put_form, row_in};
-use svg::{put_foot, put_head};
-use words::put_text;
+use region::refusals::Refusal;
+use std::fmt;
+use svg::{Page, put_foot, put_head};
 
 const HEIGHT: u16 = 2600;
 
-// Two lines of text.
-fn put_two(out: &mut [u8], from: usize, first: &[u8], second: &[u8]) -> usize {
-    let at = put_text(out, from, b"<text x='400' y='1350' >");
-    let at = put_text(out, at, first);
-    let at = put_text(out, at, b"</text>\n<text x='400' y='1850' >");
-    let at = put_text(out, at, second);
-    put_text(out, at, b"</text>\n")
+const DESCRIPTION: &str = "There is no map; the text says why, and what helps.";
+
+// What a refusal says of a card, and what helps.
+fn help_for(refusal: Refusal) -> Option<(&'static str, &'static str)> {
+    let lines = match refusal {
+        Refusal::RingLength => (
+            "A ring has fewer than 3 vertices, or the ring ends do not rise.",
+            "Draw the ring anew.",
+        ),
+        Refusal::ListSize => (
+            "A parcel has more than 64 vertices.",
+            "Draw it as two parcels, in two slots.",
+        ),
+        Refusal::CoordinateRange => (
+            "A coordinate lies outside -1,000,000 to 1,000,000.",
+            "The map's corner, or its unit, is wrong.",
+        ),
+        Refusal::VertexRepeated => (
+            "Two vertices that follow each other are the same.",
+            "Leave one out; the first is not repeated at the end.",
+        ),
+        Refusal::EdgesMeet => (
+            "A ring crosses or touches itself, or turns back on itself.",
+            "Move a vertex; a figure of eight is two rings.",
+        ),
+        Refusal::NotClockwise => (
+            "A ring does not run clockwise.",
+            "Enter its vertices the other way round.",
+        ),
+        Refusal::CardHeader => (
+            "The header counts or places something wrongly, or the length is wrong.",
+            "The card is cut off, or it is no card.",
+        ),
+        Refusal::CardParcels => (
+            "Slots do not rise from 0 to 31, or rings do not add up.",
+            "The card was made wrongly.",
+        ),
+        Refusal::CardVertices => ("The vertices do not add up.", "The card was made wrongly."),
+        _ => return None,
+    };
+    Some(lines)
 }
 
-const NO_ROW: usize = 18;
-
-// Where the two rows of a number begin in the table of `put_help`, which has them by rising numbers.
-fn row_of(number: u16) -> usize {
-    match number {
-        2 => 0,
-        3 => 2,
-        4 => 4,
-        5 => 6,
-        6 => 8,
-        7 => 10,
-        14 => 12,
-        15 => 14,
-        16 => 16,
-        _ => NO_ROW,
-    }
-}
-
-// What a number says of a card, and what helps: two rows for each.
-fn put_help(out: &mut [u8], at: usize, number: u16) -> usize {
-    let row = row_of(number);
-    if NO_ROW <= row {
-        return put_text(
-            out,
-            at,
-            b"<text x='400' y='1350' >docs/NUMBERS.md says what the number means.</text>\n",
+fn put_help(page: &mut Page, refusal: Refusal) {
+    let Some((says, helps)) = help_for(refusal) else {
+        write!(
+            page,
+            "<text x='400' y='1350' >docs/NUMBERS.md says what the number means.</text>\n"
         );
-    }
-    let table = b"A ring has fewer than 3 vertices, or the ring ends do not rise.\n\
-        Draw the ring anew.\n\
-        A parcel has more than 64 vertices.\n\
-        Draw it as two parcels, in two slots.\n\
-        A coordinate lies outside -1,000,000 to 1,000,000.\n\
-        The map's corner, or its unit, is wrong.\n\
-        Two vertices that follow each other are the same.\n\
-        Leave one out; the first is not repeated at the end.\n\
-        A ring crosses or touches itself, or turns back on itself.\n\
-        Move a vertex; a figure of eight is two rings.\n\
-        A ring does not run clockwise.\n\
-        Enter its vertices the other way round.\n\
-        The header counts or places something wrongly, or the length is wrong.\n\
-        The card is cut off, or it is no card.\n\
-        Slots do not rise from 0 to 31, or rings do not add up.\n\
-        The card was made wrongly.\n\
-        The vertices do not add up.\n\
-        The card was made wrongly.\n";
-    put_two(out, at, row_in(table, row), row_in(table, row + 1))
+        return;
+    };
+    write!(
+        page,
+        "<text x='400' y='1350' >{says}</text>\n<text x='400' y='1850' >{helps}</text>\n"
+    );
 }
 
-// The picture of a card that is refused with this number.
-pub fn put_refusal(out: &mut [u8], number: u16) -> usize {
-    let at = put_head(
-        out,
-        HEIGHT,
-        b"<title>A card that is refused</title>\n\
-        <desc>There is no map; the text says why, and what helps.</desc>\n",
-        &[],
+// The picture of a card that is refused.
+pub fn put_refusal(page: &mut Page, refusal: Refusal) {
+    let number = u16::from(refusal);
+    put_head(page, HEIGHT, "A card that is refused", DESCRIPTION);
+    write!(
+        page,
+        "<text x='400' y='750' font-size='360' font-weight='bold'>This card is refused: number {number}</text>\n"
     );
-    let at = put_form(
-        out,
-        at,
-        b"<text x='400' y='750' font-size='360' font-weight='bold'>This card is refused: number @</text>\n",
-        &[number],
-    );
-    let at = put_help(out, at, number);
-    put_foot(out, at)
+    put_help(page, refusal);
+    put_foot(page);
+}
+
+// What is wrong with the slots that were asked for.
+#[derive(Clone, Copy)]
+pub enum SlotFault {
+    NotTwo,
+    NoSlot,
+    Empty,
+    Same,
+}
+
+impl fmt::Display for SlotFault {
+    fn fmt<W: fmt::Write>(&self, f: &mut fmt::Formatter<W>) -> fmt::Result {
+        f.write_str(match self {
+            SlotFault::NotTwo => "Give two slots, or none.",
+            SlotFault::NoSlot => "A slot is a number from 0 to 31.",
+            SlotFault::Empty => "Nothing stands in one of these slots.",
+            SlotFault::Same => "Give two different slots.",
+        })
+    }
 }
 
 // The picture for slots that cannot be shown.
-fn put_notice(out: &mut [u8], text: &[u8]) -> usize {
-    let at = put_head(
-        out,
-        HEIGHT,
-        b"<title>Slots that cannot be shown</title>\n\
-        <desc>There is no map; the text says why, and what helps.</desc>\n",
-        &[],
-    );
-    let at = put_text(
-        out,
-        at,
-        b"<text x='400' y='750' font-size='360' font-weight='bold'>",
-    );
-    let at = put_text(out, at, text);
-    let at = put_text(
-        out,
-        at,
-        b"</text>\n\
+pub fn put_notice(page: &mut Page, fault: SlotFault) {
+    put_head(page, HEIGHT, "Slots that cannot be shown", DESCRIPTION);
+    write!(
+        page,
+        "<text x='400' y='750' font-size='360' font-weight='bold'>{fault}</text>\n\
         <text x='400' y='1350' >Without slots the whole map is drawn. With two slots, as 0 3,</text>\n\
-        <text x='400' y='1850' >the parcel in the first is seen from the parcel in the second.</text>\n",
+        <text x='400' y='1850' >the parcel in the first is seen from the parcel in the second.</text>\n"
     );
-    put_foot(out, at)
-}
-
-pub fn put_not_two(out: &mut [u8]) -> usize {
-    put_notice(out, b"Give two slots, or none.")
-}
-
-pub fn put_no_slot(out: &mut [u8]) -> usize {
-    put_notice(out, b"A slot is a number from 0 to 31.")
-}
-
-pub fn put_empty_slot(out: &mut [u8]) -> usize {
-    put_notice(out, b"Nothing stands in one of these slots.")
-}
-
-pub fn put_same_slot(out: &mut [u8]) -> usize {
-    put_notice(out, b"Give two different slots.")
+    put_foot(page);
 }

@@ -24,7 +24,7 @@ use Rattle.relation.specs.Relation.{region_box, region_has, relation_of, region_
 use Rattle.matrix.specs.Holding.{insert, lines_of, cell_at, range_of, holds}
 use Rattle.matrix.specs.Matrix.{cell_value, matrix_of, flat_of}
 use Rattle.compass.specs.Directions.{side_of, holds_first, holds_second, compass_place, directed, directions_of}
-use Rattle.pair.specs.declared.Answer.{Answer}
+use Rattle.pair.specs.Answer.{Answer}
 use Rattle.pair.specs.Answer.{pair_of, answer_of, given}
 use Rattle.around.specs.Around.{around_of}
 use Rattle.outlines.specs.Rows.{Row, rows}

@@ -6,7 +6,7 @@
 --   rows                the table. That the definitions give it: proofs/Table, `table`
 use Rattle.std.specs.Prelude.{Bool, true, false, List, [], ◌∷◌, ℕ, pos, negsuc}
 use Rattle.region.specs.Region.{Region, region_of}
-use Rattle.pair.specs.declared.Answer.{Answer}
+use Rattle.pair.specs.Answer.{Answer}
 use Rattle.pair.specs.Answer.{refused_with}
 
 pub record Row : Type 0 where

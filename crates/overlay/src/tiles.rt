@@ -1,15 +1,43 @@
 // The nine tiles of the reference's box across the map: its four lines, the tiles that the primary lies in, and their names.
-ghost use Rattle.std.specs.Prelude.{◌≤◌};
+ghost use Rattle.std.specs.Prelude.{◌≡◌, ◌<◌, slice_index};
+ghost use Rattle.scale.specs.Places.{x_of, y_of};
 
 use scale::view::{Extent, View, bottom, x_of, y_of};
-use svg::form::put_form;
-use words::put_text;
+use svg::Page;
 
-const LEFT: u16 = 200;
+// The lines between which the tiles lie, from west to east and from north to south: the frame's edge, the box's two lines, the frame's edge.
+#[derive(Clone, Copy)]
+pub struct Grid {
+    pub columns: [u16; 4],
+    pub rows: [u16; 4],
+}
 
-const RIGHT: u16 = 9400;
+impl Grid {
+    // The lines round the box b.
+    pub fn new(v: View, b: Extent) -> Grid
+        ensures columns { (slice_index result.columns 1 ≡ x_of v b.west) × (slice_index result.columns 2 ≡ x_of v b.east) }
+        ensures rows { (slice_index result.rows 1 ≡ y_of v b.north) × (slice_index result.rows 2 ≡ y_of v b.south) }
+    {
+        let columns = [200, x_of(v, b.west), x_of(v, b.east), 9400];
+        let rows = [200, y_of(v, b.north), y_of(v, b.south), bottom(v)];
+        Grid { columns, rows }
+    }
 
-const TOP: u16 = 200;
+    fn tile(self, row: usize, column: usize) -> Frame
+        requires { (row < 3) × (column < 3) }
+    {
+        let columns = self.columns;
+        let rows = self.rows;
+        let x = columns[column];
+        let y = rows[row];
+        Frame {
+            x,
+            y,
+            width: columns[column + 1].saturating_sub(x),
+            height: rows[row + 1].saturating_sub(y),
+        }
+    }
+}
 
 // A rectangle by its upper left corner and its size.
 #[derive(Clone, Copy)]
@@ -20,155 +48,96 @@ struct Frame {
     height: u16,
 }
 
-// How far b lies beyond a.
-fn reach(a: u16, b: u16) -> u16 {
-    if b < a {
-        return 0;
-    }
-    b - a
-}
-
-fn middle(a: u16, b: u16) -> u16
-    requires { (a ≤ 60000) × (b ≤ 60000) }
-    ensures { result ≤ 60000 }
-{
-    if b < a {
-        return a;
-    }
-    a + (b - a) / 2
+fn middle(a: u16, b: u16) -> u16 {
+    a + b.saturating_sub(a) / 2
 }
 
 // Two lines from top to bottom, and two from left to right.
-pub fn put_lines(out: &mut [u8], at: usize, v: View, b: Extent) -> usize {
-    let height = reach(TOP, bottom(v));
-    put_form(
-        out,
-        at,
-        b"<g stroke='#0b3d91' stroke-width='25' stroke-dasharray='120 70'>\n\
-        <path d='M@ 200l0 @' />\n\
-        <path d='M@ 200l0 @' />\n\
-        <path d='M200 @l9200 0' />\n\
-        <path d='M200 @l9200 0' />\n\
-        </g>\n",
-        &[
-            x_of(v, b.west),
-            height,
-            x_of(v, b.east),
-            height,
-            y_of(v, b.north),
-            y_of(v, b.south),
-        ],
-    )
+pub fn put_lines(page: &mut Page, grid: Grid) {
+    let [top, north, south, bottom] = grid.rows;
+    let [_, west, east, _] = grid.columns;
+    let height = bottom.saturating_sub(top);
+    write!(
+        page,
+        "<g stroke='#0b3d91' stroke-width='25' stroke-dasharray='120 70'>\n\
+        <path d='M{west} 200l0 {height}' />\n\
+        <path d='M{east} 200l0 {height}' />\n\
+        <path d='M200 {north}l9200 0' />\n\
+        <path d='M200 {south}l9200 0' />\n\
+        </g>\n"
+    );
 }
 
-// Where column c of tiles begins, and where row r does; the fourth is the end.
-fn column_at(v: View, b: Extent, c: u16) -> u16 {
-    match c {
-        0 => LEFT,
-        1 => x_of(v, b.west),
-        2 => x_of(v, b.east),
-        _ => RIGHT,
+// The tiles of the set, whose bits are the tiles row by row.
+pub fn put_tints(page: &mut Page, grid: Grid, set: u16) {
+    write!(page, "<g fill='#e69f00' fill-opacity='0.2'>\n");
+    for row in 0..3 {
+        for column in 0..3 {
+            if (set >> (3 * row + column)) % 2 == 1 {
+                let Frame {
+                    x,
+                    y,
+                    width,
+                    height,
+                } = grid.tile(row, column);
+                write!(
+                    page,
+                    "<rect x='{x}' y='{y}' width='{width}' height='{height}' />\n"
+                );
+            }
+        }
     }
-}
-
-fn row_at(v: View, b: Extent, r: u16) -> u16 {
-    match r {
-        0 => TOP,
-        1 => y_of(v, b.north),
-        2 => y_of(v, b.south),
-        _ => bottom(v),
-    }
-}
-
-// Tile t, in the order of their bits.
-fn tile_frame(v: View, b: Extent, t: u16) -> Frame {
-    let c = t % 3;
-    let r = t % 9 / 3;
-    let x = column_at(v, b, c);
-    let y = row_at(v, b, r);
-    Frame {
-        x,
-        y,
-        width: reach(x, column_at(v, b, c + 1)),
-        height: reach(y, row_at(v, b, r + 1)),
-    }
-}
-
-// Tile t, where it is in the set.
-fn put_tint(out: &mut [u8], at: usize, v: View, b: Extent, set: u16, t: u16) -> usize {
-    if 9 <= t {
-        return at;
-    }
-    if (set >> t) % 2 == 0 {
-        return at;
-    }
-    let f = tile_frame(v, b, t);
-    put_form(
-        out,
-        at,
-        b"<rect x='@' y='@' width='@' height='@' />\n",
-        &[f.x, f.y, f.width, f.height],
-    )
-}
-
-pub fn put_tints(out: &mut [u8], from: usize, v: View, b: Extent, set: u16) -> usize {
-    let mut at = put_text(out, from, b"<g fill='#e69f00' fill-opacity='0.2'>\n");
-    let mut t: u16 = 0;
-    while t < 9 {
-        at = put_tint(out, at, v, b, set, t);
-        t += 1;
-    }
-    put_text(out, at, b"</g>\n")
+    write!(page, "</g>\n");
 }
 
 // The names stand where the map has no parcel: along the frame.
-pub fn put_names(out: &mut [u8], from: usize, v: View, b: Extent) -> usize {
-    let x = middle(x_of(v, b.west), x_of(v, b.east));
-    let y = middle(y_of(v, b.north), y_of(v, b.south)) + 100;
-    let low = reach(160, bottom(v));
-    let at = put_form(
-        out,
-        from,
-        b"<g fill='#0b3d91' font-size='300' font-weight='bold' text-anchor='middle' stroke='#ffffff' stroke-width='60' paint-order='stroke'>\n\
+pub fn put_names(page: &mut Page, grid: Grid) {
+    let [_, west, east, _] = grid.columns;
+    let [_, north, south, bottom] = grid.rows;
+    let x = middle(west, east);
+    let y = middle(north, south).saturating_add(100);
+    let low = bottom.saturating_sub(160);
+    write!(
+        page,
+        "<g fill='#0b3d91' font-size='300' font-weight='bold' text-anchor='middle' stroke='#ffffff' stroke-width='60' paint-order='stroke'>\n\
         <text x='520' y='510' >NW</text>\n\
         <text x='9080' y='510' >NE</text>\n\
-        <text x='520' y='@' >SW</text>\n\
-        <text x='9080' y='@' >SE</text>\n\
-        <text x='@' y='510' >N</text>\n\
-        <text x='520' y='@' >W</text>\n\
-        <text x='9080' y='@' >E</text>\n\
-        <text x='@' y='@' >S</text>\n",
-        &[low, low, x, y, y, x, low],
+        <text x='520' y='{low}' >SW</text>\n\
+        <text x='9080' y='{low}' >SE</text>\n\
+        <text x='{x}' y='510' >N</text>\n\
+        <text x='520' y='{y}' >W</text>\n\
+        <text x='9080' y='{y}' >E</text>\n\
+        <text x='{x}' y='{low}' >S</text>\n"
     );
-    put_box_name(out, at, v, b)
+    put_box_name(page, grid.tile(1, 1));
 }
 
 // The name of the box itself, in its upper left corner, or beside its upper right corner where the box is small; with it the names end.
-fn put_box_name(out: &mut [u8], at: usize, v: View, b: Extent) -> usize {
-    if is_small(tile_frame(v, b, 4)) {
-        return put_name_beside(out, at, x_of(v, b.east), y_of(v, b.north));
+fn put_box_name(page: &mut Page, the_box: Frame) {
+    let Frame {
+        x,
+        y,
+        width,
+        height,
+    } = the_box;
+    if width < 900 || height < 900 {
+        return put_name_beside(page, x.saturating_add(width), y);
     }
-    put_form(
-        out,
-        at,
-        b"<text x='@' y='@' text-anchor='start'>B</text>\n</g>\n",
-        &[x_of(v, b.west) + 120, y_of(v, b.north) + 330],
-    )
+    let right = x.saturating_add(120);
+    let below = y.saturating_add(330);
+    write!(
+        page,
+        "<text x='{right}' y='{below}' text-anchor='start'>B</text>\n</g>\n"
+    );
 }
 
-fn put_name_beside(out: &mut [u8], at: usize, x: u16, y: u16) -> usize
-    requires { x ≤ 60000 }
-{
-    put_form(
-        out,
-        at,
-        b"<path d='M@ @l190-120' stroke='#0b3d91' stroke-width='25'/>\n\
-        <text x='@' y='@' text-anchor='start'>B</text>\n\
-        </g>\n",
-        &[x, y, x + 210, reach(90, y)],
-    )
-}
-
-fn is_small(f: Frame) -> bool {
-    f.width < 900 || f.height < 900
+fn put_name_beside(page: &mut Page, x: u16, y: u16) {
+    let right = x.saturating_add(210);
+    let above = y.saturating_sub(90);
+    write!(
+        page,
+        "<path d='M{x} {y}l190-120' stroke='#0b3d91' stroke-width='25'/>\n\
+        <text x='{right}' y='{above}' text-anchor='start'>B</text>\n\
+        </g>\n"
+    );
 }

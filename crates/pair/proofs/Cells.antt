@@ -26,7 +26,7 @@ use Rattle.matrix.specs.Matrix.{cell_value}
 use Rattle.matrix.proofs.Matrix.{rows_size, columns_size, value_at_lem, value_outside, value_lt}
 use Rattle.matrix.proofs.Meaning.{row_count_means, column_count_means, value_first, value_second, holds_where, flat_at}
 use Rattle.matrix.proofs.Meaning as matrix
-use Rattle.pair.specs.declared.Answer.{Answer}
+use Rattle.pair.specs.Answer.{Answer}
 use Rattle.pair.specs.Answer.{given, pair_of}
 use Rattle.pair.specs.Meaning.{Answered, cell_from}
 use Rattle.pair.proofs.Laws.{four, fields_are, tile_means, back_tile_means}

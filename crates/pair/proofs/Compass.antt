@@ -19,7 +19,7 @@ use Rattle.matrix.specs.Holding.{HoldsWhere}
 use Rattle.matrix.specs.Matrix.{three_rows, value_at}
 use Rattle.compass.specs.Directions.{HoldsFirst, HoldsSecond, Direction}
 use Rattle.matrix.proofs.Meaning.{rows_at}
-use Rattle.pair.specs.declared.Answer.{Answer}
+use Rattle.pair.specs.Answer.{Answer}
 use Rattle.pair.specs.Answer.{pair_of}
 use Rattle.pair.specs.Meaning.{Answered, cell_from, FirstAt, SecondAt, Lies}
 use Rattle.pair.proofs.Cells.{rows_between, columns_between, cell_past, cell_means, cell_first_has, cell_second_has}

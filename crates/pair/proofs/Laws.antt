@@ -14,8 +14,8 @@ use Prim.Native.Nat.{ℕ, zero, suc, ◌*◌, ◌≤◌, ◌<◌}
 use native.Mathlib.Omega.{arith}
 use Rattle.plane.specs.Points.{Lines}
 use Rattle.plane.specs.TileSet.{bit}
-use Rattle.region.specs.declared.Checked.{Checked}
-use Rattle.region.specs.declared.Checked.TheVariants.{Accepted, Refused}
+use Rattle.region.specs.Check.{Checked}
+use Rattle.region.specs.Check.{Accepted, Refused}
 use Rattle.region.specs.Region.{Region, last_end}
 use Rattle.region.specs.Rules.{Keeps}
 use Rattle.region.specs.Check.{check_of}
@@ -24,7 +24,7 @@ use Rattle.region.proofs.Check.{accepted_means, refused_means}
 use Rattle.relation.specs.Relation.{RegionBox, RegionHas, RegionPieces, region_box, relation_of, region_seen}
 use Rattle.relation.proofs.Relation.{relation_tile, pieces_count, region_pieces_le, relation_lt}
 use Rattle.relation.proofs.Never.{never_none, region_tile}
-use Rattle.pair.specs.declared.Answer.{Answer}
+use Rattle.pair.specs.Answer.{Answer}
 use Rattle.pair.specs.Answer.{or_refused, given, answer_of, pair_of}
 use Rattle.pair.specs.Meaning.{Answered}
 

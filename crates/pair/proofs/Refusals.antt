@@ -10,15 +10,15 @@ use mathlib.Core.Path.{◌≡◌, refl, sym, ◌∙◌, ap}
 use mathlib.Core.Logic.{◌↔◌, ◌⊎◌, ◌≢◌, inl, inr, ⊎_elim}
 use Prim.Native.Nat.{ℕ, ◌≤◌}
 use native.Mathlib.Omega.{arith}
-use Rattle.region.specs.declared.Checked.{Checked}
-use Rattle.region.specs.declared.Checked.TheVariants.{Accepted, Refused}
+use Rattle.region.specs.Check.{Checked}
+use Rattle.region.specs.Check.{Accepted, Refused}
 use Rattle.region.specs.Refusals.{withheld}
 use Rattle.region.specs.Region.{Region}
 use Rattle.region.specs.Rules.{KeepsRules}
 use Rattle.region.specs.Check.{check_of}
 use Rattle.region.proofs.Keeps.{broken_number}
 use Rattle.region.proofs.Check as check
-use Rattle.pair.specs.declared.Answer.{Answer}
+use Rattle.pair.specs.Answer.{Answer}
 use Rattle.pair.specs.Answer.{refused_with, given, pair_of}
 use Rattle.pair.specs.Meaning.{Answered, RefusedPair}
 use Rattle.pair.proofs.Laws.{number_means, fields_are, some_tile}

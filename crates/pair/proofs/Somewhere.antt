@@ -30,7 +30,7 @@ use Rattle.compass.specs.Directions.{HoldsFirst, HoldsSecond, Toward, Direction}
 use Rattle.matrix.proofs.Lines.{lines_rise, lines_means}
 use Rattle.matrix.proofs.Matrix.{value_is, value_at_lem, rows_size, columns_size, matrix_exchanged}
 use Rattle.compass.proofs.Directions.{directions_mean}
-use Rattle.pair.specs.declared.Answer.{Answer}
+use Rattle.pair.specs.Answer.{Answer}
 use Rattle.pair.specs.Answer.{given, pair_of}
 use Rattle.pair.specs.Meaning.{Answered}
 use Rattle.pair.proofs.Laws.{fields_are}

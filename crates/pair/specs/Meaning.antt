@@ -15,7 +15,7 @@ use Rattle.relation.specs.Relation.{RegionHas}
 use Rattle.matrix.specs.Grid.{Cell}
 use Rattle.matrix.specs.Holding.{HoldsWhere}
 use Rattle.compass.specs.Directions.{Toward}
-use Rattle.pair.specs.declared.Answer.{Answer}
+use Rattle.pair.specs.Answer.{Answer}
 
 pub record Answered (first second : Region) : Type 0 where
   pub first_kept : KeepsRules first

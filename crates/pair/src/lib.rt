@@ -2,128 +2,104 @@
 #![tactic(auto)]
 
 ghost use Rattle.std.specs.Prelude.{◌≡◌};
-ghost use Rattle.region.specs.Region.{region_of};
+ghost use Rattle.region.specs.Outline.{drawn_by};
 ghost use Rattle.region.specs.Rules.{Keeps};
-ghost use Rattle.pair.specs.Answer.{refused_with, or_refused, given, answer_of, pair_of, report_words};
+ghost use Rattle.pair.specs.Answer.{answer_with, answer_in, given, answer_of, pair_of, refused_with, report_words};
+ghost use Rattle.region.specs.Refusals.{number};
 
 use compass::directions_of;
-use matrix::{flat_of, grid_of, matrix_of};
-use outline::check_region;
+use matrix::{SizedMatrix, flat_of, grid_of, matrix_of};
+use outline::check_both;
 use plane::Box;
-use region::Checked;
+use region::{Outline, RefusedRegion};
 use relation::{region_box, region_seen};
 use seen::Seen;
 
-// Either the refusal (number, region, ring, and every other field 0), or number, region and ring 0 and the answers: the relation of the
-// first region to the second and of the second to the first, the matrix with its size, the directions of the first from the second, and
-// the pieces of each.
+// What is answered of two accepted regions: the relation of the first to the second and of the second to the first, the matrix, the directions
+// of the first from the second, and the pieces of each.
 #[derive(Clone, Copy)]
 pub struct Answer {
-    pub number: u16,
-    pub region: u16,
-    pub ring: u16,
     pub first: u16,
     pub second: u16,
-    pub rows: u16,
-    pub columns: u16,
-    pub cells: [u8; 9],
+    pub matrix: SizedMatrix,
     pub directions: u16,
     pub first_pieces: u16,
     pub second_pieces: u16,
 }
 
-fn refused(number: u16, region: u16, ring: u16) -> Answer
-    ensures { result ≡ refused_with number region ring }
-{
-    let cells = [0u8; 9];
-    Answer {
-        number,
-        region,
-        ring,
-        first: 0,
-        second: 0,
-        rows: 0,
-        columns: 0,
-        cells,
-        directions: 0,
-        first_pieces: 0,
-        second_pieces: 0,
-    }
-}
-
-// The refusal of a region that the check does not accept.
-fn refusal(checked: Checked, region: u16) -> Answer
-    ensures { result ≡ or_refused checked region (refused_with 0 0 0) }
-{
-    match checked {
-        Checked::Accepted => refused(0, 0, 0),
-        Checked::Refused { number, ring } => refused(number, region, ring),
-    }
-}
-
 // The answer for two boxes and what each region shows of the other's.
 fn given(a: Box, b: Box, there: Seen, back: Seen) -> Answer
-    ensures { result ≡ given a b there back }
+    ensures { answer_with result ≡ given a b there back }
 {
     let g = grid_of(a, b);
     let m = matrix_of(g, a, b, there.set, back.set);
-    let cells = flat_of(m);
-    let directions = directions_of(m);
-    Answer {
-        number: 0,
-        region: 0,
-        ring: 0,
-        first: there.set,
-        second: back.set,
+    let matrix = SizedMatrix {
         rows: g.rows,
         columns: g.columns,
-        cells,
-        directions,
+        cells: flat_of(m),
+    };
+    Answer {
+        first: there.set,
+        second: back.set,
+        matrix,
+        directions: directions_of(m),
         first_pieces: there.pieces,
         second_pieces: back.pieces,
     }
 }
 
 // The answer for two accepted regions.
-fn answer_of(first: &[i32], first_ends: &[u16], second: &[i32], second_ends: &[u16]) -> Answer
-    requires { Keeps 4 (region_of first.now first_ends.now) × Keeps 4 (region_of second.now second_ends.now) }
-    ensures { result ≡ answer_of (region_of first.now first_ends.now) (region_of second.now second_ends.now) }
+pub fn answer_of(first: Outline, second: Outline) -> Answer
+    requires { Keeps 4 (drawn_by first) × Keeps 4 (drawn_by second) }
+    ensures { answer_with result ≡ answer_of (drawn_by first.entry) (drawn_by second.entry) }
 {
-    let a = region_box(first, first_ends);
-    let b = region_box(second, second_ends);
-    let there = region_seen(b, a, first, first_ends);
-    let back = region_seen(a, b, second, second_ends);
+    let a = region_box(first);
+    let b = region_box(second);
+    let there = region_seen(b, a, first);
+    let back = region_seen(a, b, second);
     given(a, b, there, back)
 }
 
 // The pair call. The first region is checked wholly before the second.
-pub fn pair_of(first: &[i32], first_ends: &[u16], second: &[i32], second_ends: &[u16]) -> Answer
-    ensures { result ≡ pair_of (region_of first.now first_ends.now) (region_of second.now second_ends.now) }
+pub fn pair_of(first: Outline, second: Outline) -> Result<Answer, RefusedRegion>
+    ensures { answer_in result ≡ pair_of (drawn_by first.entry) (drawn_by second.entry) }
 {
-    let one = check_region(first, first_ends);
-    let Checked::Accepted = one else {
-        return refusal(one, 1);
-    };
-    let two = check_region(second, second_ends);
-    let Checked::Accepted = two else {
-        return refusal(two, 2);
-    };
-    answer_of(first, first_ends, second, second_ends)
+    check_both(first, second)?;
+    Ok(answer_of(first, second))
 }
 
-// The 19 numbers of an answer, in the order of its fields.
-pub fn report_words(a: Answer) -> [u16; 19]
-    ensures { result ≡ report_words a }
+// The 19 numbers of an answer, a refusal's first three, then those of its fields; where one is refused, all others are 0.
+pub fn report_words(answer: Result<Answer, RefusedRegion>) -> [u16; 19]
+    ensures { result ≡ report_words (answer_in answer) }
 {
-    let cells = a.cells;
+    match answer {
+        Ok(a) => answer_words(a),
+        Err(refused) => refused_words(refused),
+    }
+}
+
+fn refused_words(refused: RefusedRegion) -> [u16; 19]
+    ensures { result ≡ report_words (refused_with (number refused.broken.rule) refused.region refused.broken.ring) }
+{
+    let mut words = [0u16; 19];
+    words[0] = refused.broken.rule.into();
+    words[1] = refused.region;
+    words[2] = refused.broken.ring;
+    words
+}
+
+fn answer_words(a: Answer) -> [u16; 19]
+    ensures { result ≡ report_words (answer_with a) }
+{
+    let cells = a.matrix.cells;
     [
-        a.number,
-        a.region,
-        a.ring,
+        0,
+        0,
+        0,
         a.first,
         a.second,
-        a.rows,
-        a.columns,
+        a.matrix.rows,
+        a.matrix.columns,
         cells[0] as u16,
         cells[1] as u16,
         cells[2] as u16,

@@ -1,79 +1,62 @@
 // Which picture it is.
-ghost use Rattle.std.specs.Prelude.{◌≡◌};
-ghost use Rattle.card.specs.CardNumber.{card_number};
-
-use contents::rules::card_number;
-use field::{entry_of, fields_on};
+use contents::GoodCard;
+use field::entry_of;
 use map::put_map;
-use notice::{put_empty_slot, put_no_slot, put_not_two, put_refusal, put_same_slot};
+use notice::{SlotFault, put_notice, put_refusal};
 use sight::put_sight;
 use std::env::FillError;
 use std::rt::Env;
-use words::Natural;
+use svg::Page;
+use words::Word;
 
-const NO_SLOT: u16 = 32;
+// Slots are numbers below this.
+const SLOTS: u16 = 32;
 
 // Whether there is an argument i. Argument 0 is the program's own name.
 fn has_argument(rt: &impl Env, i: usize) -> bool {
     !matches!(rt.arg(i, &mut []), Err(FillError::NotPresent))
 }
 
-// The slot that argument i names, or NO_SLOT. Any slot is written in at most two digits; zeros before them are let pass.
-fn slot_asked(rt: &impl Env, i: usize) -> u16 {
+// The slot that argument i names. Any slot is written in at most two digits; zeros before them are let pass.
+fn slot_asked(rt: &impl Env, i: usize) -> Result<u16, SlotFault> {
     let mut word = [0u8; 16];
     let n = rt.arg(i, &mut word).unwrap_or(0);
-    let number = words::read_last_natural(&word[..n], 0);
-    let Natural::Is { value, next: _ } = number else {
-        return NO_SLOT;
-    };
-    if NO_SLOT < value {
-        return NO_SLOT;
+    match words::read_last_natural(&word[..n], 0) {
+        Some(Word { value, next: _ }) if value < SLOTS => Ok(value),
+        _ => Err(SlotFault::NoSlot),
     }
-    value
 }
 
-// The parcel in the first slot seen from the parcel in the second.
-fn draw_two(card: &[u8], out: &mut [u8], primary: u16, reference: u16) -> usize
-    requires { card_number card.now ≡ 0 }
-{
-    if primary == reference {
-        return put_same_slot(out);
-    }
-    let parcels = fields_on(card);
-    let j = entry_of(card, primary);
-    let k = entry_of(card, reference);
-    if parcels <= j {
-        return put_empty_slot(out);
-    }
-    if parcels <= k {
-        return put_empty_slot(out);
-    }
-    put_sight(out, card, j, k)
-}
-
-// What the arguments ask for, of a good card.
-fn draw_asked(rt: &impl Env, card: &[u8], out: &mut [u8]) -> usize
-    requires { card_number card.now ≡ 0 }
-{
+// The two slots that the arguments name: the parcel in the first is seen from the parcel in the second.
+fn slots_asked(rt: &impl Env) -> Result<(u16, u16), SlotFault> {
     if !has_argument(rt, 2) || has_argument(rt, 3) {
-        return put_not_two(out);
+        return Err(SlotFault::NotTwo);
     }
-    let primary = slot_asked(rt, 1);
-    let reference = slot_asked(rt, 2);
-    if primary == NO_SLOT || reference == NO_SLOT {
-        return put_no_slot(out);
+    let primary = slot_asked(rt, 1)?;
+    let reference = slot_asked(rt, 2)?;
+    if primary == reference {
+        return Err(SlotFault::Same);
     }
-    draw_two(card, out, primary, reference)
+    Ok((primary, reference))
+}
+
+fn draw_two(card: &GoodCard, page: &mut Page, rt: &impl Env) -> Result<(), SlotFault> {
+    let (primary, reference) = slots_asked(rt)?;
+    let j = entry_of(card, primary).ok_or(SlotFault::Empty)?;
+    let k = entry_of(card, reference).ok_or(SlotFault::Empty)?;
+    put_sight(page, card, j, k);
+    Ok(())
 }
 
 // A card that is refused is told before anything is said of the slots.
-pub fn draw(rt: &impl Env, card: &[u8], out: &mut [u8]) -> usize {
-    let number = card_number(card);
-    if number != 0 {
-        return put_refusal(out, number);
+pub fn draw(rt: &impl Env, card: &[u8], page: &mut Page) {
+    match GoodCard::read(card) {
+        Err(refusal) => put_refusal(page, refusal),
+        Ok(good) if !has_argument(rt, 1) => put_map(page, &good),
+        Ok(good) => {
+            if let Err(fault) = draw_two(&good, page, rt) {
+                put_notice(page, fault);
+            }
+        }
     }
-    if !has_argument(rt, 1) {
-        return put_map(out, card);
-    }
-    draw_asked(rt, card, out)
 }

@@ -4,9 +4,10 @@
 
 mod draw;
 
-use answers::fronts::bytes;
+use answers::front;
 use draw::draw;
 use intake::read_card;
+use svg::Page;
 
 // A card has at most 17,036 bytes; one more tells a longer input. The buffer has room for the picture of any card.
 fn main(rt: HostRuntime) {
@@ -16,8 +17,9 @@ fn main(rt: HostRuntime) {
         let _ = rt.eprintln("picture: the input could not be read to its end");
     }
     let mut out = [0u8; 131072];
-    let end = draw(&rt, bytes(&card, input.count), &mut out);
-    if rt.write_all(bytes(&out, end)).is_err() {
+    let mut page = Page::new(&mut out);
+    draw(&rt, front(&card, input.count), &mut page);
+    if rt.write_all(page.written()).is_err() {
         let _ = rt.eprintln("picture: the picture could not be written to its end");
     }
 }

@@ -1,11 +1,11 @@
 -- The texts of a map, one after the other.
---   stretch_none, stretch_more      no vertex of a stretch, and one more
+--   stretch_none, stretch_more      no vertex of a ring, and one more
 --   rings_none, rings_more          no ring, and one more
---   entry_is, number_is             a number of a shape's list, and the place of a coordinate of which it is made
+--   vertex_is, number_is            a vertex of a shape's list, and the place of a coordinate of which it is made
 --   map_none, map_more              no parcel, and one more: those that were drawn stay
 use mathlib.Core.Path.{◌≡◌, refl, sym, ◌∙◌, ap}
 use mathlib.Core.List.{List, [], ◌++◌}
-use Prim.Native.Nat.{ℕ, zero, suc, ◌+◌, ◌-◌, ◌≤◌, ◌<◌}
+use Prim.Native.Nat.{ℕ, zero, suc, ◌+◌, ◌≤◌, ◌<◌}
 use native.Mathlib.Omega.{arith}
 use native.Mathlib.Decide.{dec_lt}
 use lib.Dec.{ltb}
@@ -14,14 +14,16 @@ use lib.ListN.{get_or, take}
 use lib.Seq.{get_or-take}
 use borrow.Author.Tests.{lt-ltb, le-ltb}
 use Rattle.plane.specs.Choice.{pick}
-use Rattle.svg.specs.Ink.{Inked, inked_to}
-use Rattle.svg.proofs.Inking.{inked_none, inked_then, inked_as}
+use Rattle.svg.specs.declared.page.Page.{Page}
+use Rattle.svg.specs.Ink.{Inked, InkedOn, inked_to}
+use Rattle.svg.proofs.Inking.{inked_none, inked_then, inked_as, on_none, on_then, on_as}
 use Rattle.plane.specs.Lists.{tab}
 use Rattle.plane.proofs.Lists.{get_d_tab}
 use Rattle.scale.specs.declared.view.View.{View}
 use Rattle.scale.specs.Places.{place_in, number_place}
 use Rattle.scale.specs.declared.shape.Shape.{Shape}
-use Rattle.scale.specs.Shapes.{entry_at, end_before}
+use Rattle.scale.specs.declared.shape.Vertex.{Vertex}
+use Rattle.scale.specs.Shapes.{corner, vertex_at, ring_of}
 use Rattle.plot.specs.Drawn.{vertex_ink, stretch_ink, ring_ink, rings_ink, parcel_ink, Drawn, MapInk}
 
 to_none : (f : ℕ → List (List ℕ)) → inked_to f 0 ≡ []
@@ -40,37 +42,28 @@ unfolding inked_to
 to_same f g zero h = refl
 to_same f g (suc n) h = λ i. to_same f g n (λ k b. h k (omega arith)) i ++ h n (omega arith) i
 
-module _ (xs ys : List ℕ) (from : ℕ) where
-  pub stretch_none : (b : List ℕ) (at i : ℕ) → i ≡ from → Inked b at (stretch_ink xs ys from (i - from)) at b
+module _ (vs : List Vertex) where
+  pub stretch_none : (p : Page) → InkedOn p (stretch_ink vs 0) p
   unfolding stretch_ink
-  stretch_none b at i e =
-      let z : i - from ≡ 0 = omega (arith, e) in
-      inked_as (sym (ap (inked_to _) z ∙ to_none _)) (inked_none b at)
+  stretch_none p = on_as (sym (to_none _)) (on_none p)
 
-  pub stretch_more : {b d c : List ℕ} {at m r : ℕ} (i : ℕ) → from ≤ i → Inked b at (stretch_ink xs ys from (i - from)) m d → Inked d m (vertex_ink xs ys i) r c
-      → Inked b at (stretch_ink xs ys from (i + 1 - from)) r c
+  pub stretch_more : {p m q : Page} (n : ℕ) → InkedOn p (stretch_ink vs n) m → InkedOn m (vertex_ink (get_or vs n corner)) q → InkedOn p (stretch_ink vs (n + 1)) q
   unfolding stretch_ink
-  stretch_more i h p q =
-      let z : i + 1 - from ≡ suc (i - from) = omega arith in
-      let y : i ≡ from + (i - from) = omega arith in
-      inked_as
-      ((λ k. inked_to (λ j. vertex_ink xs ys (from + j)) (i - from) ++ vertex_ink xs ys (y k)) ∙ sym (ap (inked_to _) z ∙ to_more _ (i - from)))
-      (inked_then _ _ p q)
+  stretch_more n i j = on_as (sym (ap (inked_to _) (plus_one n) ∙ to_more _ n)) (on_then _ _ i j)
 
 module _ (s : Shape) where
-  pub rings_none : (b : List ℕ) (at : ℕ) → Inked b at (rings_ink s 0) at b
+  pub rings_none : (p : Page) → InkedOn p (rings_ink s 0) p
   unfolding rings_ink
-  rings_none b at = inked_as (sym (to_none _)) (inked_none b at)
+  rings_none p = on_as (sym (to_none _)) (on_none p)
 
-  pub rings_more : {b d c : List ℕ} {at m r : ℕ} (n : ℕ) → Inked b at (rings_ink s n) m d
-      → Inked d m (ring_ink s.xs s.ys (end_before s.ends n) (end_before s.ends (n + 1))) r c → Inked b at (rings_ink s (n + 1)) r c
+  pub rings_more : {p m q : Page} (n : ℕ) → InkedOn p (rings_ink s n) m → InkedOn m (ring_ink (ring_of s.vertices s.ends n)) q → InkedOn p (rings_ink s (n + 1)) q
   unfolding rings_ink
-  rings_more n p q = inked_as (sym (ap (inked_to _) (plus_one n) ∙ to_more _ n)) (inked_then _ _ p q)
+  rings_more n i j = on_as (sym (ap (inked_to _) (plus_one n) ∙ to_more _ n)) (on_then _ _ i j)
 
--- a number of a shape's list, and the place of a coordinate of which the list is made
-pub entry_is : (f : ℕ → ℕ) {l : List ℕ} → l ≡ tab f 64 → (i : ℕ) → i < 64 → entry_at l i ≡ f i
-unfolding entry_at
-entry_is f {l} e i h = rw (lt-ltb i 64 h) (ap (λ (m : List ℕ). get_or m i 0) e ∙ get_d_tab f 0 64 i h)
+-- a vertex of a shape's list, and the place of a coordinate of which it is made
+pub vertex_is : (f : ℕ → Vertex) {l : List Vertex} → l ≡ tab f 64 → (i : ℕ) → i < 64 → vertex_at l i ≡ f i
+unfolding vertex_at
+vertex_is f {l} e i h = rw (lt-ltb i 64 h) (ap (λ (m : List Vertex). get_or m i corner) e ∙ get_d_tab f corner 64 i h)
 
 pub number_is : (numbers : List ℤ) {l : List ℤ} (n j : ℕ) → take n numbers ≡ l → j < n → n ≤ 128 → number_place numbers j ≡ place_in (get_or l j (pos 0))
 unfolding number_place
@@ -78,7 +71,7 @@ number_is numbers {l} n j e h k = rw (lt-ltb j 128 (omega arith)) (ap place_in (
 
 module _ (v : View) (card : List ℕ) where
   pub map_none : (b : List ℕ) (at : ℕ) → MapInk v card 0 b at at b
-  map_none b at = record { shapes = λ k. record { slot = 0; rings = 0; ends = []; xs = []; ys = [] }; drawn = λ k l. absurd (omega (arith, l)); inked = inked_as (sym (to_none _)) (inked_none b at) }
+  map_none b at = record { shapes = λ k. record { slot = 0; rings = 0; ends = []; vertices = [] }; drawn = λ k l. absurd (omega (arith, l)); inked = inked_as (sym (to_none _)) (inked_none b at) }
 
   pub map_as : {b c : List ℕ} {at r n m : ℕ} → n ≡ m → MapInk v card n b at r c → MapInk v card m b at r c
   map_as {b} {c} {at} {r} e p = rw⁻¹ e p

@@ -1,16 +1,18 @@
 -- No rule stands here: the texts of which the map of a card draws its parcels. Letters are the numbers of their ASCII codes.
 --   move_text .. idEnd      the words between the numbers
 --   fill_at k               the k-th of eight fills; a slot has that of its remainder by 8
---   vertex_ink xs ys i      vertex i of a shape;  stretch_ink  n vertices from one on;  ring_ink  a ring
+--   vertex_ink v            a vertex;  stretch_ink vs n  the first n of the vertices vs;  ring_ink vs  the ring of these vertices
 --   parcel_ink s            the path of a shape: its rings in order, its fill, its slot
 --   Drawn v card k s        s is what the map draws of parcel k of the card: its slot, its rings, where they end, and where its vertices stand
+--                           in its list of 64
 --   MapInk v card n         what a call that draws the first n parcels ensures: each is drawn once, in the order of the card, and so by rising slots
-use Rattle.std.specs.Prelude.{◌≡◌, List, [], ◌∷◌, ◌++◌, ℕ, ◌+◌, ◌-◌, ◌*◌, ◌%◌, ◌<◌, get_or, take, pos}
+use Rattle.std.specs.Prelude.{◌≡◌, List, [], ◌∷◌, ◌++◌, ℕ, ◌+◌, ◌*◌, ◌%◌, ◌<◌, length, get_or, take, pos}
 use Rattle.scale.specs.declared.view.View.{View}
 use Rattle.scale.specs.Places.{x_of, y_of, place_in}
 use Rattle.region.specs.Region.{last_end}
 use Rattle.scale.specs.declared.shape.Shape.{Shape}
-use Rattle.scale.specs.Shapes.{entry_at, end_before}
+use Rattle.scale.specs.declared.shape.Vertex.{Vertex}
+use Rattle.scale.specs.Shapes.{corner, vertex_at, ring_of}
 use Rattle.card.specs.Reading.{slot_at, count_at, ends_at, numbers_at}
 use Rattle.names.specs.Numbers.{decimal}
 use Rattle.svg.specs.Ink.{Inked, inked_to}
@@ -59,17 +61,17 @@ fill_at k =
     k
     []
 
-abbrev pub vertex_ink : (xs ys : List ℕ) (i : ℕ) → List (List ℕ)
-vertex_ink xs ys i = decimal (entry_at xs i) ∷ space_text ∷ decimal (entry_at ys i) ∷ space_text ∷ []
+abbrev pub vertex_ink : Vertex → List (List ℕ)
+vertex_ink v = decimal v.x ∷ space_text ∷ decimal v.y ∷ space_text ∷ []
 
-unfoldable pub stretch_ink : (xs ys : List ℕ) (from n : ℕ) → List (List ℕ)
-stretch_ink xs ys from n = inked_to (λ i. vertex_ink xs ys (from + i)) n
+unfoldable pub stretch_ink : (vs : List Vertex) (n : ℕ) → List (List ℕ)
+stretch_ink vs n = inked_to (λ i. vertex_ink (get_or vs i corner)) n
 
-unfoldable pub ring_ink : (xs ys : List ℕ) (from to : ℕ) → List (List ℕ)
-ring_ink xs ys from to = move_text ∷ (stretch_ink xs ys from (to - from) ++ (close_text ∷ []))
+unfoldable pub ring_ink : List Vertex → List (List ℕ)
+ring_ink vs = move_text ∷ (stretch_ink vs (length vs) ++ (close_text ∷ []))
 
 unfoldable pub rings_ink : Shape → ℕ → List (List ℕ)
-rings_ink s n = inked_to (λ r. ring_ink s.xs s.ys (end_before s.ends r) (end_before s.ends (r + 1))) n
+rings_ink s n = inked_to (λ r. ring_ink (ring_of s.vertices s.ends r)) n
 
 unfoldable pub parcel_ink : Shape → List (List ℕ)
 parcel_ink s =
@@ -79,8 +81,9 @@ pub record Drawn (v : View) (card : List ℕ) (k : ℕ) (s : Shape) : Type 0 whe
   pub slot : s.slot ≡ slot_at card k
   pub rings : s.rings ≡ count_at card k
   pub ends : take s.rings s.ends ≡ ends_at card k
-  pub xs : (i : ℕ) → i < last_end (ends_at card k) → entry_at s.xs i ≡ x_of v (place_in (get_or (numbers_at card k) (2 * i) (pos 0)))
-  pub ys : (i : ℕ) → i < last_end (ends_at card k) → entry_at s.ys i ≡ y_of v (place_in (get_or (numbers_at card k) (2 * i + 1) (pos 0)))
+  pub vertices : length s.vertices ≡ 64
+  pub xs : (i : ℕ) → i < last_end (ends_at card k) → (vertex_at s.vertices i).x ≡ x_of v (place_in (get_or (numbers_at card k) (2 * i) (pos 0)))
+  pub ys : (i : ℕ) → i < last_end (ends_at card k) → (vertex_at s.vertices i).y ≡ y_of v (place_in (get_or (numbers_at card k) (2 * i + 1) (pos 0)))
 
 pub record MapInk (v : View) (card : List ℕ) (n : ℕ) (b : List ℕ) (at r : ℕ) (c : List ℕ) : Type 0 where
   pub shapes : ℕ → Shape

@@ -18,12 +18,13 @@ use mathlib.Core.Logic.{◌↔◌, ◌⊎◌, ◌≢◌, inl, inr}
 use mathlib.Core.List.{List, []}
 use Prim.Native.Nat.{ℕ, ◌+◌, ◌≤◌, ◌<◌}
 use lib.ListN.{length, get_or}
+use Rattle.std.specs.Prelude.{Result}
 use Rattle.plane.specs.Lists.{stores}
+use Rattle.region.specs.declared.refusals.Refusal.{Refusal}
+use Rattle.region.specs.Refusals.{number_in}
 use Rattle.layout.specs.Sheet.{slots}
 use Rattle.layout.specs.Slots.{cell_in}
-use Rattle.calls.specs.declared.Reading.{Reading}
-use Rattle.calls.specs.declared.Reading.TheVariants.{Relation, Refused}
-use Rattle.calls.specs.Readings.{reading_of, reading_number}
+use Rattle.calls.specs.Readings.{Reading, Relation, Refused, reading_in, reading_of}
 use Rattle.calls.specs.Several.{pair_count, primary_of, reference_of, refused_from, result_of, pair_result, several_number}
 use Rattle.calls.specs.Says.{Readable, ReadSays, read_done, read_lists, read_slot, read_empty, SeveralSays, several_done, several_lists, several_odd, several_short}
 use Rattle.calls.proofs.Readings.{read_means, cell_answered, number_answered, row_full, row_cells, row_empty}
@@ -34,7 +35,7 @@ use Rattle.reading.proofs.row.Reads as row_reads
 use Rattle.reading.proofs.several.read_cells.Reads as several_reads
 
 -- ---- a reading
-module _ (κs : _) (a : _) (r : Reading) (e : _) (post : read_reads.Post κs a r e) where
+module _ (κs : _) (a : _) (r : Result ℕ Refusal) (e : _) (post : read_reads.Post κs a r e) where
   abbrev read_records : List ℕ
   read_records = a.0.now
 
@@ -47,11 +48,11 @@ module _ (κs : _) (a : _) (r : Reading) (e : _) (post : read_reads.Post κs a r
   abbrev reference : ℕ
   reference = a.1.1.1.0
 
-  pub reading_means : (n : ℕ) → (reading_number r ≡ n) ↔ ReadSays read_records read_relations primary reference n
+  pub reading_means : (n : ℕ) → (number_in r ≡ n) ↔ ReadSays read_records read_relations primary reference n
   reading_means n = rw post.1.0 (read_says read_records read_relations primary reference n)
 
-  pub reading_either : (reading_number r ≡ 0) ⊎ ((reading_number r ≡ 11) ⊎ ((reading_number r ≡ 8) ⊎ (reading_number r ≡ 9)))
-  reading_either = go ((reading_means (reading_number r)).0 refl)
+  pub reading_either : (number_in r ≡ 0) ⊎ ((number_in r ≡ 11) ⊎ ((number_in r ≡ 8) ⊎ (number_in r ≡ 9)))
+  reading_either = go ((reading_means (number_in r)).0 refl)
     where
       go : {m : ℕ} → ReadSays read_records read_relations primary reference m → (m ≡ 0) ⊎ ((m ≡ 11) ⊎ ((m ≡ 8) ⊎ (m ≡ 9)))
       go (read_done h) = inl refl
@@ -59,10 +60,10 @@ module _ (κs : _) (a : _) (r : Reading) (e : _) (post : read_reads.Post κs a r
       go (read_slot right l) = inr (inr (inl refl))
       go (read_empty right hi hj none) = inr (inr (inr refl))
 
-  pub reading_there : Readable read_records read_relations primary reference → r ≡ Relation (cell_in read_relations primary reference)
+  pub reading_there : Readable read_records read_relations primary reference → reading_in r ≡ Relation (cell_in read_relations primary reference)
   reading_there h = post.0 ∙ cell_answered read_records read_relations primary reference h
 
-  pub reading_refused : (n : ℕ) → n ≢ 0 → ReadSays read_records read_relations primary reference n → r ≡ Refused n
+  pub reading_refused : (n : ℕ) → n ≢ 0 → ReadSays read_records read_relations primary reference n → reading_in r ≡ Refused n
   reading_refused n some h = post.0 ∙ number_answered read_records read_relations primary reference n some ((read_says read_records read_relations primary reference n).1 h)
 
 -- ---- a row
@@ -89,13 +90,13 @@ module _ (κs : _) (a : _) (r : _) (e : _) (post : row_reads.Post κs a r e) whe
 
 -- ---- a list of pairs
 pub data Answered (records relations : List ℕ) (i j : ℕ) : Reading → Type 0 where
-  answered : (κs : _) (a : _) (r : Reading) (e : _) → read_reads.Post κs a r e → a.0.now ≡ records → a.1.0.now ≡ relations → a.1.1.0 ≡ i → a.1.1.1.0 ≡ j
-      → Answered records relations i j r
+  answered : (κs : _) (a : _) (r : Result ℕ Refusal) (e : _) → read_reads.Post κs a r e → a.0.now ≡ records → a.1.0.now ≡ relations → a.1.1.0 ≡ i → a.1.1.1.0 ≡ j
+      → Answered records relations i j (reading_in r)
 
 answered_is : {records relations : List ℕ} {i j : ℕ} {r : Reading} → Answered records relations i j r → r ≡ reading_of records relations i j
 answered_is (answered κs a r e post er el ei ej) = rw (← er, ← el, ← ei, ← ej) post.0
 
-module _ (κs : _) (a : _) (n : ℕ) (e : _) (post : several_reads.Post κs a n e) where
+module _ (κs : _) (a : _) (answer : Result (Unit {0}) Refusal) (e : _) (post : several_reads.Post κs a answer e) where
   abbrev list_records : List ℕ
   list_records = a.0.now
 
@@ -111,11 +112,11 @@ module _ (κs : _) (a : _) (n : ℕ) (e : _) (post : several_reads.Post κs a n 
   abbrev after : List ℕ
   after = e.1.1.1.0.now
 
-  pub several_means : (m : ℕ) → (n ≡ m) ↔ SeveralSays list_records list_relations pairs before m
+  pub several_means : (m : ℕ) → (number_in answer ≡ m) ↔ SeveralSays list_records list_relations pairs before m
   several_means m = rw post.0 (laws.several_says list_records list_relations pairs before m)
 
-  pub several_either : (n ≡ 0) ⊎ ((n ≡ 11) ⊎ ((n ≡ 18) ⊎ (n ≡ 10)))
-  several_either = go ((several_means n).0 refl)
+  pub several_either : (number_in answer ≡ 0) ⊎ ((number_in answer ≡ 11) ⊎ ((number_in answer ≡ 18) ⊎ (number_in answer ≡ 10)))
+  several_either = go ((several_means (number_in answer)).0 refl)
     where
       go : {m : ℕ} → SeveralSays list_records list_relations pairs before m → (m ≡ 0) ⊎ ((m ≡ 11) ⊎ ((m ≡ 18) ⊎ (m ≡ 10)))
       go (several_done right k h l) = inl refl
@@ -123,13 +124,13 @@ module _ (κs : _) (a : _) (n : ℕ) (e : _) (post : several_reads.Post κs a n 
       go (several_odd right k h) = inr (inr (inl refl))
       go (several_short right k h l) = inr (inr (inr refl))
 
-  pub several_kept : n ≢ 0 → after ≡ before
+  pub several_kept : number_in answer ≢ 0 → after ≡ before
   several_kept some = post.1 ∙ laws.several_refused list_records list_relations pairs before (λ z. some (post.0 ∙ z))
 
   pub several_as_many : length after ≡ length before
   several_as_many = ap length post.1 ∙ laws.several_length list_records list_relations pairs before
 
-  module _ (done : n ≡ 0) where
+  module _ (done : number_in answer ≡ 0) where
     zero_is : several_number list_records list_relations pairs before ≡ 0
     zero_is = sym post.0 ∙ done
 

@@ -4,5 +4,6 @@ pub mod Keeps
 pub mod Tests
 pub mod Check
 pub mod OrElse
+pub mod Answers
 pub mod Search
 pub mod Rings

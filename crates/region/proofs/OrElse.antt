@@ -14,7 +14,9 @@ use native.Mathlib.Omega.{arith}
 use native.Mathlib.Decide.{ℕ_discrete}
 use borrow.Author.Count.{below_none, below_more}
 use Rattle.plane.proofs.Logic.{never}
-use Rattle.region.specs.Refusals.{Refusal, number, number_if, or_else, first_number, ring_count, ring_length, list_size, coordinate_range, vertex_repeated, edges_meet, not_clockwise, slot_number, slot_empty, buffer_short, sheet_lists, sheet_damaged, withheld, card_header, card_parcels, card_vertices, not_two_parcels, pairs_odd}
+use Rattle.region.specs.declared.refusals.Refusal.{Refusal}
+use Rattle.region.specs.declared.refusals.Refusal.TheVariants.{RingCount, RingLength, ListSize, CoordinateRange, VertexRepeated, EdgesMeet, NotClockwise, SlotNumber, SlotEmpty, BufferShort, SheetLists, SheetDamaged, CardHeader, CardParcels, CardVertices, NotTwoParcels, PairsOdd}
+use Rattle.region.specs.Refusals.{number, number_if, or_else, first_number, withheld}
 
 pub or_else_first : (a b : ℕ) → a ≢ 0 → or_else a b ≡ a
 or_else_first zero b h = absurd (h refl)
@@ -29,42 +31,42 @@ or_else_none zero b = (λ e. (refl, e), λ p. p.1)
 or_else_none (suc a) b = (λ e. absurd (omega arith), λ p. absurd (omega (arith, p.0)))
 
 pub number_some : (k : Refusal) → number k ≢ 0
-number_some ring_count e = omega arith
-number_some ring_length e = omega arith
-number_some list_size e = omega arith
-number_some coordinate_range e = omega arith
-number_some vertex_repeated e = omega arith
-number_some edges_meet e = omega arith
-number_some not_clockwise e = omega arith
-number_some slot_number e = omega arith
-number_some slot_empty e = omega arith
-number_some buffer_short e = omega arith
-number_some sheet_lists e = omega arith
-number_some sheet_damaged e = omega arith
-number_some card_header e = omega arith
-number_some card_parcels e = omega arith
-number_some card_vertices e = omega arith
-number_some not_two_parcels e = omega arith
-number_some pairs_odd e = omega arith
+number_some RingCount e = omega arith
+number_some RingLength e = omega arith
+number_some ListSize e = omega arith
+number_some CoordinateRange e = omega arith
+number_some VertexRepeated e = omega arith
+number_some EdgesMeet e = omega arith
+number_some NotClockwise e = omega arith
+number_some SlotNumber e = omega arith
+number_some SlotEmpty e = omega arith
+number_some BufferShort e = omega arith
+number_some SheetLists e = omega arith
+number_some SheetDamaged e = omega arith
+number_some CardHeader e = omega arith
+number_some CardParcels e = omega arith
+number_some CardVertices e = omega arith
+number_some NotTwoParcels e = omega arith
+number_some PairsOdd e = omega arith
 
 pub number_not_withheld : (k : Refusal) → number k ≢ withheld
-number_not_withheld ring_count e = omega arith
-number_not_withheld ring_length e = omega arith
-number_not_withheld list_size e = omega arith
-number_not_withheld coordinate_range e = omega arith
-number_not_withheld vertex_repeated e = omega arith
-number_not_withheld edges_meet e = omega arith
-number_not_withheld not_clockwise e = omega arith
-number_not_withheld slot_number e = omega arith
-number_not_withheld slot_empty e = omega arith
-number_not_withheld buffer_short e = omega arith
-number_not_withheld sheet_lists e = omega arith
-number_not_withheld sheet_damaged e = omega arith
-number_not_withheld card_header e = omega arith
-number_not_withheld card_parcels e = omega arith
-number_not_withheld card_vertices e = omega arith
-number_not_withheld not_two_parcels e = omega arith
-number_not_withheld pairs_odd e = omega arith
+number_not_withheld RingCount e = omega arith
+number_not_withheld RingLength e = omega arith
+number_not_withheld ListSize e = omega arith
+number_not_withheld CoordinateRange e = omega arith
+number_not_withheld VertexRepeated e = omega arith
+number_not_withheld EdgesMeet e = omega arith
+number_not_withheld NotClockwise e = omega arith
+number_not_withheld SlotNumber e = omega arith
+number_not_withheld SlotEmpty e = omega arith
+number_not_withheld BufferShort e = omega arith
+number_not_withheld SheetLists e = omega arith
+number_not_withheld SheetDamaged e = omega arith
+number_not_withheld CardHeader e = omega arith
+number_not_withheld CardParcels e = omega arith
+number_not_withheld CardVertices e = omega arith
+number_not_withheld NotTwoParcels e = omega arith
+number_not_withheld PairsOdd e = omega arith
 
 pub number_if_none : (t : Bool) (k : Refusal) → (number_if t k ≡ 0) ↔ (t ≡ false)
 number_if_none true k = (λ e. absurd (number_some k e), λ e. never (sym e))

@@ -3,13 +3,29 @@
 
 pub mod refusals;
 
+use refusals::Refusal;
+
 pub const MOST_RINGS: usize = 8;
 
 pub const MOST_VERTICES: usize = 64;
 
-// The answer of the check: the lowest number that some ring breaks, and the first ring that breaks it.
+// An outline as it is lent: x and y of vertex after vertex, and the ring ends.
 #[derive(Clone, Copy)]
-pub enum Checked {
-    Accepted,
-    Refused { number: u16, ring: u16 },
+pub struct Outline<'a> {
+    pub coordinates: &'a [i32],
+    pub ends: &'a [u16],
+}
+
+// What refuses a region: the lowest of the rules 1 to 7 that some ring breaks, and the first ring, from 0 on, that breaks it.
+#[derive(Clone, Copy, PartialEq, Eq)]
+pub struct Broken {
+    pub rule: Refusal,
+    pub ring: u16,
+}
+
+// What refuses two regions that are asked about together: which of them, 1 or 2, and what refuses it.
+#[derive(Clone, Copy, PartialEq, Eq)]
+pub struct RefusedRegion {
+    pub region: u16,
+    pub broken: Broken,
 }

@@ -32,7 +32,7 @@ use Rattle.region.specs.Rules.{KeepsRules}
 use Rattle.region.proofs.Keeps.{keeps_fewer, sized}
 use Rattle.relation.specs.Relation.{RegionBox, RegionHas}
 use Rattle.matrix.specs.Matrix.{flat_of}
-use Rattle.pair.specs.declared.Answer.{Answer}
+use Rattle.pair.specs.Answer.{Answer}
 use Rattle.pair.specs.Answer.{given, pair_of, report_words}
 use Rattle.pair.specs.Meaning.{Answered}
 use Rattle.pair.proofs.Laws.{fields_are, tile_means, back_tile_means, pieces_between, back_pieces_between, relation_below, back_relation_below}

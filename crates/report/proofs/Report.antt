@@ -9,7 +9,7 @@ use native.Mathlib.Omega.{arith}
 use lib.ListN.{length, get_or, drop}
 use borrow.Author.Tests.{lt-ltb, le-ltb, eq-eqb, ne_eqb}
 use Rattle.region.proofs.OrElse.{or_else_first}
-use Rattle.pair.specs.declared.Answer.{Answer}
+use Rattle.pair.specs.Answer.{Answer}
 use Rattle.pair.specs.Answer.{report_words}
 use Rattle.endian.specs.Bytes.{u16_bytes}
 use Rattle.endian.specs.Placed.{placed}

@@ -4,8 +4,9 @@
 --   HostGives n             n is one of the numbers that the call can answer: 0, 10, those of a card (14, 15, 2, 3, 16, 4 to 7) or 17
 --   ReportHas b a           the numbers of the answer a after the first three stand in the bytes b, each with the byte at which it begins
 use Rattle.std.specs.Prelude.{◌≡◌, ◌≢◌, ◌⊎◌, List, ℕ, ◌+◌, ◌*◌, ◌≤◌, ◌<◌, length}
-use Rattle.region.specs.Refusals.{number, buffer_short, not_two_parcels}
-use Rattle.pair.specs.declared.Answer.{Answer}
+use Rattle.region.specs.declared.refusals.Refusal.TheVariants.{BufferShort, NotTwoParcels}
+use Rattle.region.specs.Refusals.{number}
+use Rattle.pair.specs.Answer.{Answer}
 use Rattle.pair.specs.Meaning.{cell_from}
 use Rattle.endian.specs.Bytes.{u16_at}
 use Rattle.card.specs.Reading.{parcel_count}
@@ -19,13 +20,13 @@ pub record Reported (card report : List ℕ) : Type 0 where
   pub two : parcel_count card ≡ 2
 
 pub data HostSays (card report : List ℕ) : ℕ → Type 0 where
-  host_short : length report < report_length → HostSays card report (number buffer_short)
+  host_short : length report < report_length → HostSays card report (number BufferShort)
   host_card : {n : ℕ} → report_length ≤ length report → (GoodCard card → ⊥) → CardSays card n → HostSays card report n
-  host_count : report_length ≤ length report → GoodCard card → parcel_count card ≢ 2 → HostSays card report (number not_two_parcels)
+  host_count : report_length ≤ length report → GoodCard card → parcel_count card ≢ 2 → HostSays card report (number NotTwoParcels)
   host_done : Reported card report → HostSays card report 0
 
 abbrev pub HostGives : ℕ → Type 0
-HostGives n = (n ≡ 0) ⊎ ((n ≡ number buffer_short) ⊎ ((n ≡ number not_two_parcels) ⊎ CardsOwn n))
+HostGives n = (n ≡ 0) ⊎ ((n ≡ number BufferShort) ⊎ ((n ≡ number NotTwoParcels) ⊎ CardsOwn n))
 
 pub record ReportHas (b : List ℕ) (a : Answer) : Type 0 where
   pub first : u16_at b 6 ≡ a.first

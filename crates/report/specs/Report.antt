@@ -5,8 +5,9 @@
 --   host_number card report         the number that the call returns;  host_report card report  the report buffer at exit
 use Rattle.std.specs.Prelude.{List, ◌++◌, ℕ, ◌*◌, not, ltb, eqb, length, drop}
 use Rattle.plane.specs.Choice.{pick}
-use Rattle.region.specs.Refusals.{number_if, or_else, buffer_short, not_two_parcels}
-use Rattle.pair.specs.declared.Answer.{Answer}
+use Rattle.region.specs.declared.refusals.Refusal.TheVariants.{BufferShort, NotTwoParcels}
+use Rattle.region.specs.Refusals.{number_if, or_else}
+use Rattle.pair.specs.Answer.{Answer}
 use Rattle.pair.specs.Answer.{report_words}
 use Rattle.endian.specs.Placed.{word_bytes}
 use Rattle.card.specs.Reading.{parcel_count}
@@ -24,8 +25,8 @@ report_bytes a = word_bytes (report_words a) report_numbers
 
 unfoldable pub host_number : (card report : List ℕ) → ℕ
 host_number card report =
-    or_else (number_if (ltb (length report) report_length) buffer_short)
-    (or_else (card_number card) (number_if (not (eqb (parcel_count card) 2)) not_two_parcels))
+    or_else (number_if (ltb (length report) report_length) BufferShort)
+    (or_else (card_number card) (number_if (not (eqb (parcel_count card) 2)) NotTwoParcels))
 
 unfoldable pub host_report : (card report : List ℕ) → List ℕ
 host_report card report = pick (eqb (host_number card report) 0) (report_bytes (pair_in card 0 1) ++ drop report_length report) report

@@ -32,16 +32,16 @@ use Rattle.runs.proofs.Runs.{standing_together, run_layout, run_fresh, standing_
 
 -- ---- one call
 pub called_after : {c : Call} {s t : Sheet} {n : ℕ} → Called c s n t → t ≡ after_call c s
-called_after (put_called κs a n e post) = post.1
-called_after (remove_called κs a n e post) = post.1
-called_after (clear_called κs a n e post) = post.1
-called_after (load_called κs a n e post) = post.1
+called_after (put_called κs a r e post) = post.1
+called_after (remove_called κs a r e post) = post.1
+called_after (clear_called κs a r e post) = post.1
+called_after (load_called κs a r e post) = post.1
 
 pub called_number : {c : Call} {s t : Sheet} {n : ℕ} → Called c s n t → n ≡ call_number c s
-called_number (put_called κs a n e post) = post.0
-called_number (remove_called κs a n e post) = post.0
-called_number (clear_called κs a n e post) = post.0
-called_number (load_called κs a n e post) = post.0
+called_number (put_called κs a r e post) = post.0
+called_number (remove_called κs a r e post) = post.0
+called_number (clear_called κs a r e post) = post.0
+called_number (load_called κs a r e post) = post.0
 
 -- a clearing that answered 0 leaves the empty sheet
 emptied : {c : Call} {s t : Sheet} {n : ℕ} → Called c s n t → c ≡ clear → n ≡ 0 → t ≡ blank

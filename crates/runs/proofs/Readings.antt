@@ -19,18 +19,20 @@ use Prim.Native.Nat.{ℕ, ◌+◌, ◌*◌, ◌≤◌, ◌<◌}
 use native.Mathlib.Omega.{arith}
 use lib.ListN.{length, get_or}
 use borrow.Author.Tests.{eqb-true, eqb-false}
+use Rattle.std.specs.Prelude.{Result}
 use Rattle.plane.specs.Folds.{sum_to}
 use Rattle.plane.specs.Points.{Lines}
 use Rattle.plane.specs.TileSet.{bit}
+use Rattle.region.specs.declared.refusals.Refusal.{Refusal}
+use Rattle.region.specs.Refusals.{number_in}
 use Rattle.region.specs.Region.{Region, Parcel, nothing, outline}
 use Rattle.relation.specs.Relation.{RegionBox, RegionHas}
 use Rattle.layout.specs.Sheet.{Sheet, slots, RightTables}
 use Rattle.layout.specs.Standing.{occupied}
 use Rattle.layout.specs.Slots.{rings_in, empty_in, cell_in}
 use Rattle.layout.proofs.Standing.{stand_fewer, layout_empty}
-use Rattle.calls.specs.declared.Reading.{Reading}
-use Rattle.calls.specs.declared.Reading.TheVariants.{Relation, Refused}
-use Rattle.calls.specs.Readings.{reading_number, reading_value, tile_count}
+use Rattle.calls.specs.Readings.{Relation, Refused, reading_in, reading_number, reading_value, tile_count}
+use Rattle.calls.proofs.Readings.{number_same}
 use Rattle.calls.specs.Several.{pair_count, primary_of, reference_of}
 use Rattle.calls.specs.Says.{Readable, ReadSays, read_done, read_lists, read_slot, read_empty, SeveralSays, several_done, several_lists, several_odd, several_short}
 use Rattle.reading.proofs.Call as call
@@ -73,23 +75,26 @@ module _ {cs : List Call} {s : Sheet} (ran : Ran cs s) where
   cell_after p q = ap (λ (t : Sheet). cell_in t.relations p q) (ran_after ran)
 
   -- ---- a cell
-  module _ (κs : _) (a : _) (r : Reading) (e : _) (post : read_reads.Post κs a r e) (lent : (a.0.now ≡ s.records) × (a.1.0.now ≡ s.relations)) where
+  module _ (κs : _) (a : _) (r : Result ℕ Refusal) (e : _) (post : read_reads.Post κs a r e) (lent : (a.0.now ≡ s.records) × (a.1.0.now ≡ s.relations)) where
     abbrev p : ℕ
     p = a.1.1.0
 
     abbrev q : ℕ
     q = a.1.1.1.0
 
-    says : (n : ℕ) → (reading_number r ≡ n) ↔ ReadSays s.records s.relations p q n
+    says : (n : ℕ) → (number_in r ≡ n) ↔ ReadSays s.records s.relations p q n
     says n = rw (← lent.0, ← lent.1) (call.reading_means κs a r e post n)
 
-    value : Readable s.records s.relations p q → r ≡ Relation (cell_in (after_run cs).relations p q)
+    value : Readable s.records s.relations p q → reading_in r ≡ Relation (cell_in (after_run cs).relations p q)
     value h = call.reading_there κs a r e post (rw (lent.0, lent.1) h) ∙ ap (λ (l : List ℕ). Relation (cell_in l p q)) lent.1 ∙ ap Relation (cell_after p q)
 
-    refused : (n : ℕ) → n ≢ 0 → ReadSays s.records s.relations p q n → r ≡ Refused n
+    refused : (n : ℕ) → n ≢ 0 → ReadSays s.records s.relations p q n → reading_in r ≡ Refused n
     refused n some h = call.reading_refused κs a r e post n some (rw (lent.0, lent.1) h)
 
-    pub reading_zero : (reading_number r ≡ 0) ↔ (((R : Region) × Stands cs p R) × ((Q : Region) × Stands cs q Q))
+    said : (b : Result ℕ Refusal) {v : ℕ} → reading_in b ≡ Relation v → number_in b ≡ 0
+    said b x = sym (number_same b) ∙ ap reading_number x
+
+    pub reading_zero : (number_in r ≡ 0) ↔ (((R : Region) × Stands cs p R) × ((Q : Region) × Stands cs q Q))
     reading_zero = (λ z. found ((says 0).0 z) refl, λ h. (says 0).1 (read_done (may_read p q h.0.0 h.0.1 h.1.0 h.1.1)))
       where
         found : {n : ℕ} → ReadSays s.records s.relations p q n → n ≡ 0 → ((R : Region) × Stands cs p R) × ((Q : Region) × Stands cs q Q)
@@ -98,24 +103,24 @@ module _ {cs : List Call} {s : Sheet} (ran : Ran cs s) where
         found (read_slot right l) z = absurd (omega arith)
         found (read_empty right hp hq x) z = absurd (omega arith)
 
-    pub reading_past : (slots ≤ p) ⊎ (slots ≤ q) → r ≡ Refused 8
+    pub reading_past : (slots ≤ p) ⊎ (slots ≤ q) → reading_in r ≡ Refused 8
     reading_past h = refused 8 (λ z. omega arith) (read_slot tables h)
 
-    pub reading_empty : p < slots → q < slots → (standing cs p ≡ nothing) ⊎ (standing cs q ≡ nothing) → r ≡ Refused 9
+    pub reading_empty : p < slots → q < slots → (standing cs p ≡ nothing) ⊎ (standing cs q ≡ nothing) → reading_in r ≡ Refused 9
     reading_empty hp hq h = refused 9 (λ z. omega arith) (read_empty tables hp hq (⊎_elim (λ x. inl (bare p hp x)) (λ x. inr (bare q hq x)) h))
 
     module _ (R : Region) (first : Stands cs p R) where
-      pub reading_tile : (Q : Region) → Stands cs q Q → p ≢ q → (M : Lines) → RegionBox Q M → (t : ℕ) → t < 9 → (bit (reading_value r) t ≡ 1) ↔ RegionHas M R t
+      pub reading_tile : (Q : Region) → Stands cs q Q → p ≢ q → (M : Lines) → RegionBox Q M → (t : ℕ) → t < 9 → (bit (reading_value (reading_in r)) t ≡ 1) ↔ RegionHas M R t
       reading_tile Q second other M is t l = rw (ap reading_value (value (may_read p q R first Q second))) (standing_tile cs p q R first Q second other M is t l)
 
-      pub reading_self : p ≡ q → r ≡ Relation 0
+      pub reading_self : p ≡ q → reading_in r ≡ Relation 0
       reading_self same =
           value (may_read p q R first R (rw (← same) first)) ∙ ap (λ (k : ℕ). Relation (cell_in (after_run cs).relations p k)) (sym same) ∙ ap Relation (self_cell_lem cs p R first)
 
-      pub reading_self_read : p ≡ q → (reading_number r ≡ 0) × (reading_value r ≡ 0)
-      reading_self_read same = (ap reading_number (reading_self same), ap reading_value (reading_self same))
+      pub reading_self_read : p ≡ q → (number_in r ≡ 0) × (reading_value (reading_in r) ≡ 0)
+      reading_self_read same = (said r (reading_self same), ap reading_value (reading_self same))
 
-      pub tiles_self : p ≡ q → (κt : _) (b : _) (n : ℕ) (f : _) → tiles_reads.Post κt b n f → b.0 ≡ reading_value r → n ≡ 0
+      pub tiles_self : p ≡ q → (κt : _) (b : _) (n : ℕ) (f : _) → tiles_reads.Post κt b n f → b.0 ≡ reading_value (reading_in r) → n ≡ 0
       unfolding tile_count sum_to
       tiles_self same κt b n f counted of-it = counted ∙ ap tile_count (of-it ∙ (reading_self_read same).1)
 
@@ -152,17 +157,17 @@ module _ {cs : List Call} {s : Sheet} (ran : Ran cs s) where
       row_tile k Q second other M is t l = rw (row_is.1 k (stands_slot second)) (standing_tile cs slot k R first Q second other M is t l)
 
   -- ---- a list of pairs
-  module _ (κs : _) (a : _) (n : ℕ) (e : _) (post : several_reads.Post κs a n e) (lent : (a.0.now ≡ s.records) × (a.1.0.now ≡ s.relations)) where
+  module _ (κs : _) (a : _) (answer : Result (Unit {0}) Refusal) (e : _) (post : several_reads.Post κs a answer e) (lent : (a.0.now ≡ s.records) × (a.1.0.now ≡ s.relations)) where
     abbrev pairs : List ℕ
     pairs = a.1.1.0.now
 
     abbrev results : List ℕ
     results = a.1.1.1.0.now
 
-    list_says : (m : ℕ) → (n ≡ m) ↔ SeveralSays s.records s.relations pairs results m
-    list_says m = rw (← lent.0, ← lent.1) (call.several_means κs a n e post m)
+    list_says : (m : ℕ) → (number_in answer ≡ m) ↔ SeveralSays s.records s.relations pairs results m
+    list_says m = rw (← lent.0, ← lent.1) (call.several_means κs a answer e post m)
 
-    pub cells_zero : (n ≡ 0) ↔ ((m : ℕ) × (length pairs ≡ 2 * m) × (m ≤ length results))
+    pub cells_zero : (number_in answer ≡ 0) ↔ ((m : ℕ) × (length pairs ≡ 2 * m) × (m ≤ length results))
     cells_zero = (λ z. found ((list_says 0).0 z) refl, λ h. (list_says 0).1 (several_done tables h.0 h.1 h.2))
       where
         found : {j : ℕ} → SeveralSays s.records s.relations pairs results j → j ≡ 0 → (m : ℕ) × (length pairs ≡ 2 * m) × (m ≤ length results)
@@ -171,7 +176,7 @@ module _ {cs : List Call} {s : Sheet} (ran : Ran cs s) where
         found (several_odd right m h) z = absurd (omega arith)
         found (several_short right m h l) z = absurd (omega arith)
 
-    module _ (done : n ≡ 0) (k : ℕ) (l : k < pair_count pairs) where
+    module _ (done : number_in answer ≡ 0) (k : ℕ) (l : k < pair_count pairs) where
       abbrev primary : ℕ
       primary = primary_of pairs k
 
@@ -183,10 +188,10 @@ module _ {cs : List Call} {s : Sheet} (ran : Ran cs s) where
 
       cell_is : Readable s.records s.relations primary reference → result ≡ cell_in (after_run cs).relations primary reference
       cell_is h =
-          call.several_cell κs a n e post done k l (rw (lent.0, lent.1) h) ∙ ap (λ (c : List ℕ). cell_in c primary reference) lent.1 ∙ cell_after primary reference
+          call.several_cell κs a answer e post done k l (rw (lent.0, lent.1) h) ∙ ap (λ (c : List ℕ). cell_in c primary reference) lent.1 ∙ cell_after primary reference
 
       number_is : (m : ℕ) → m ≢ 0 → ReadSays s.records s.relations primary reference m → result ≡ 1000 + m
-      number_is m some h = call.several_number_lem κs a n e post done k l m some (rw (lent.0, lent.1) h)
+      number_is m some h = call.several_number_lem κs a answer e post done k l m some (rw (lent.0, lent.1) h)
 
       pub cells_past : (slots ≤ primary) ⊎ (slots ≤ reference) → result ≡ 1008
       cells_past h = number_is 8 (λ z. omega arith) (read_slot tables h)

@@ -4,10 +4,12 @@
 --   x_of v x, y_of v y    where the place x stands from the left and the place y from above: north is up
 --   place_in c             the place of a coordinate; 0 for one that is out of range
 --   number_place l i      the place of number i of a list of 128
+--   corner_of l i         vertex i of that list, by its two places
 use Rattle.std.specs.Prelude.{List, ℕ, ◌+◌, ◌-◌, ◌*◌, ◌/◌, ltb, leb, eqb, ℤ, pos, get_or}
 use Rattle.plane.specs.Choice.{pick}
 use Rattle.plane.specs.Place.{in_range, place_of}
 use Rattle.scale.specs.declared.view.View.{View}
+use Rattle.scale.specs.declared.view.Corner.{Corner}
 
 unfoldable pub tenths_of : (d span : ℕ) → ℕ
 tenths_of d span =
@@ -27,3 +29,6 @@ place_in c = pick (in_range c) (place_of c) 0
 
 unfoldable pub number_place : List ℤ → ℕ → ℕ
 number_place l i = pick (ltb i 128) (place_in (get_or l i (pos 0))) 0
+
+abbrev pub corner_of : List ℤ → ℕ → Corner
+corner_of l i = record { x = number_place l (2 * i); y = number_place l (2 * i + 1) }

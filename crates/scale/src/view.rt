@@ -1,11 +1,12 @@
 // From map units to tenths of a pixel. The parcels fill 7,600 tenths from west to east, or 5,600 from south to north where that
 // is less; the frame leaves 800 on each side of them, is 9,200 wide and at least 3,000 high.
-ghost use Rattle.std.specs.Prelude.{◌≡◌, ◌≤◌, min};
-ghost use Rattle.scale.specs.Places.{tenths_of, placed_of, x_of, y_of, place_in, number_place};
+ghost use Rattle.std.specs.Prelude.{◌≡◌, ◌≤◌, ◌<◌, min};
+ghost use Rattle.plane.specs.Lists.{tab};
+ghost use Rattle.scale.specs.Places.{tenths_of, placed_of, x_of, y_of, place_in, number_place, corner_of};
 
 use contents::MOST_NUMBERS;
 use field::Field;
-use plane::{greater, in_range, lesser, place_of};
+use plane::{in_range, place_of};
 use region::{MOST_RINGS, MOST_VERTICES};
 
 const ACROSS: u16 = 9200;
@@ -17,6 +18,8 @@ const BORDER: u16 = 1600;
 const LEAST_HEIGHT: u16 = 3000;
 
 const MARGIN: u16 = 200;
+
+const MOST_PLACE: u64 = 2000000;
 
 // The places between which the parcels lie.
 #[derive(Clone, Copy)]
@@ -39,10 +42,18 @@ pub struct View {
     pub height: u16,
 }
 
+// A vertex of a parcel on the map, by its places.
+#[derive(Clone, Copy)]
+pub struct Corner {
+    pub x: u64,
+    pub y: u64,
+}
+
+// No Option: this extent joins like any other, and leaves the other as it is.
 pub fn nothing() -> Extent {
     Extent {
-        west: 2000000,
-        south: 2000000,
+        west: MOST_PLACE,
+        south: MOST_PLACE,
         east: 0,
         north: 0,
     }
@@ -50,10 +61,10 @@ pub fn nothing() -> Extent {
 
 pub fn joined(a: Extent, b: Extent) -> Extent {
     Extent {
-        west: lesser(a.west, b.west),
-        south: lesser(a.south, b.south),
-        east: greater(a.east, b.east),
-        north: greater(a.north, b.north),
+        west: a.west.min(b.west),
+        south: a.south.min(b.south),
+        east: a.east.max(b.east),
+        north: a.north.max(b.north),
     }
 }
 
@@ -61,10 +72,7 @@ pub fn joined(a: Extent, b: Extent) -> Extent {
 pub fn vertices_of(f: Field) -> usize
     ensures { result ≤ 64 }
 {
-    if f.rings == 0 {
-        return 0;
-    }
-    if MOST_RINGS < f.rings {
+    if f.rings == 0 || MOST_RINGS < f.rings {
         return 0;
     }
     let ends = f.ends;
@@ -75,14 +83,11 @@ pub fn vertices_of(f: Field) -> usize
 pub fn least(end: u16) -> usize
     ensures { (result ≡ min end 64) × (result ≤ 64) }
 {
-    if MOST_VERTICES < end as usize {
-        return MOST_VERTICES;
-    }
-    end as usize
+    usize::from(end).min(MOST_VERTICES)
 }
 
 // The place of number i.
-pub fn place_at(numbers: [i32; MOST_NUMBERS], i: usize) -> u64
+fn place_at(numbers: [i32; MOST_NUMBERS], i: usize) -> u64
     ensures { result ≡ number_place numbers i }
 {
     if MOST_NUMBERS <= i {
@@ -94,42 +99,51 @@ pub fn place_at(numbers: [i32; MOST_NUMBERS], i: usize) -> u64
 fn place(c: i32) -> u64
     ensures { result ≡ place_in c }
 {
-    if in_range(c) {
-        return place_of(c);
-    }
-    0
+    if in_range(c) { place_of(c) } else { 0 }
 }
 
-fn with_vertex(e: Extent, x: u64, y: u64) -> Extent {
-    joined(
-        e,
-        Extent {
-            west: x,
-            south: y,
-            east: x,
-            north: y,
-        },
-    )
+// The vertices of a parcel; what stands behind the last one is no vertex.
+pub fn corners_of(f: Field) -> [Corner; MOST_VERTICES]
+    ensures { result ≡ tab (corner_of f.numbers) 64 }
+{
+    let mut corners = [Corner { x: 0, y: 0 }; MOST_VERTICES];
+    for (i, c) in corners.iter_mut().enumerate() {
+        *c = corner_at(f.numbers, i);
+    }
+    corners
+}
+
+fn corner_at(numbers: [i32; MOST_NUMBERS], i: usize) -> Corner
+    requires { i < 64 }
+    ensures { result ≡ corner_of numbers i }
+{
+    Corner {
+        x: place_at(numbers, 2 * i),
+        y: place_at(numbers, 2 * i + 1),
+    }
 }
 
 pub fn extent_of(f: Field) -> Extent {
+    let corners = corners_of(f);
     let mut e = nothing();
-    let n = vertices_of(f);
-    let numbers = f.numbers;
-    let mut i: usize = 0;
-    while i < n {
-        e = with_vertex(e, place_at(numbers, 2 * i), place_at(numbers, 2 * i + 1));
-        i += 1;
+    for c in &corners[..vertices_of(f)] {
+        e = joined(e, extent_at(*c));
     }
     e
 }
 
+fn extent_at(c: Corner) -> Extent {
+    Extent {
+        west: c.x,
+        south: c.y,
+        east: c.x,
+        north: c.y,
+    }
+}
+
 // How far b lies above a, at least 1.
 fn apart(a: u64, b: u64) -> u64 {
-    if b <= a {
-        return 1;
-    }
-    b - a
+    b.saturating_sub(a).max(1)
 }
 
 // How many tenths d units are, where a span has 7,600, cut down to that.
@@ -142,7 +156,7 @@ pub fn tenths(d: u64, span: u64) -> u16
     if span <= d {
         return INNER;
     }
-    if 2000000 < d {
+    if MOST_PLACE < d {
         return INNER;
     }
     let t = d * 7600 / span;
@@ -152,30 +166,9 @@ pub fn tenths(d: u64, span: u64) -> u16
     t as u16
 }
 
-fn frame_height(inner: u16) -> u16 {
-    if 60000 < inner {
-        return LEAST_HEIGHT;
-    }
-    if inner + BORDER < LEAST_HEIGHT {
-        return LEAST_HEIGHT;
-    }
-    inner + BORDER
-}
-
-// Half of what is left of `whole` beside `inner`, and the margin.
-fn centred(whole: u16, inner: u16) -> u16 {
-    if whole < inner {
-        return MARGIN;
-    }
-    if 60000 < whole {
-        return MARGIN;
-    }
-    MARGIN + (whole - inner) / 2
-}
-
 // The span that 7,600 tenths have where `up` has at most 5,600.
 fn enough(up: u64) -> u64 {
-    if 2000000 < up {
+    if MOST_PLACE < up {
         return up;
     }
     up * 19 / 14 + 1
@@ -184,15 +177,15 @@ fn enough(up: u64) -> u64 {
 pub fn view_of(e: Extent) -> View {
     let across = apart(e.west, e.east);
     let up = apart(e.south, e.north);
-    let span = greater(across, enough(up));
+    let span = across.max(enough(up));
     let inner = tenths(up, span);
-    let height = frame_height(inner);
+    let height = (inner + BORDER).max(LEAST_HEIGHT);
     View {
         west: e.west,
         north: e.north,
         span,
-        left: centred(ACROSS, tenths(across, span)),
-        top: centred(height, inner),
+        left: MARGIN + (ACROSS - tenths(across, span)) / 2,
+        top: MARGIN + (height - inner) / 2,
         height,
     }
 }
@@ -226,8 +219,5 @@ pub fn y_of(v: View, y: u64) -> u16
 pub fn bottom(v: View) -> u16
     ensures { result ≤ 10200 }
 {
-    if 10000 < v.height {
-        return 10200;
-    }
-    v.height + 200
+    v.height.min(10000) + 200
 }

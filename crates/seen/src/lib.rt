@@ -1,17 +1,16 @@
 // What one ring shows a box: its tiles by all three clauses, and its pieces.
 #![tactic(auto)]
 
-ghost use Rattle.std.specs.Prelude.{◌≡◌, true, ◌+◌, ◌≤◌, ◌<◌, min, length};
+ghost use Rattle.std.specs.Prelude.{◌≡◌, true, ◌+◌, ◌≤◌, ◌<◌, length};
 ghost use Rattle.plane.specs.Placed.{BoxInPlaces, Upright};
 ghost use Rattle.edge.specs.Drawn.{drawn};
 ghost use Rattle.classes.specs.Classes.{list_by};
 ghost use Rattle.ring.specs.Edges.{ring_edge};
-ghost use Rattle.ring.specs.Stretch.{Stretch};
 ghost use Rattle.ring.specs.RingBox.{stretch_box, covers};
 ghost use Rattle.seen.specs.Pass.{block, edge_to, classing_box, corner_class, Classes, seen_to};
 ghost use Rattle.seen.specs.RingSeen.{edges_seen, ring_seen};
 
-use circuit::{equal_ends, ring_edge, ring_encloses, stretch_box, x_of, y_of};
+use circuit::{Ring, equal_ends};
 use classes::{vertex_class, walk_told};
 use edge::{Walk, walk_edge};
 use plane::Box;
@@ -43,11 +42,12 @@ fn edge_to(n: usize, k: usize) -> usize
 // The box against which the vertices are classed. By its classes an edge with equal ends shows the tile of its vertex, which is right
 // for the ring: some edge leaves that vertex, and has the tile. But none does in a ring of one point. So where the first edge has equal
 // ends, the vertices are classed against a box without inside, and every edge is walked.
-fn classing_box(b: Box, xs: &[i32], from: usize, n: usize) -> Box
-    requires { Stretch xs.now from n × (0 < n) }
-    ensures { result ≡ classing_box b xs.now from n }
+#[tactic(auto, unfolding(crate::specs::Pass::classing_box))]
+fn classing_box(b: Box, ring: &Ring) -> Box
+    requires { 0 < ring.now.size }
+    ensures { result ≡ classing_box b ring.now.outline.now ring.now.from ring.now.size }
 {
-    if equal_ends(ring_edge(xs, from, n, 0)) {
+    if equal_ends(ring.edge(0)) {
         return Box {
             west: 0,
             south: 0,
@@ -58,147 +58,128 @@ fn classing_box(b: Box, xs: &[i32], from: usize, n: usize) -> Box
     b
 }
 
-fn corner_class(c: Box, xs: &[i32], from: usize, n: usize, k: usize) -> u32
-    requires { BoxInPlaces c × Stretch xs.now from n × (k < n) }
-    ensures { result ≡ corner_class c xs.now from k }
-{
-    vertex_class(c, x_of(xs, from + k), y_of(xs, from + k))
-}
-
-// The classes of the m vertices from vertex `at` on.
-fn lay_classes(c: Box, xs: &[i32], from: usize, n: usize, at: usize, m: usize, to: &mut [u32])
-    requires { BoxInPlaces c × Stretch xs.now from n × (at + m ≤ n) × (m ≤ length to.old) }
-    ensures { Classes c xs.now from at m to.new }
-{
-    let mut k: usize = 0;
-    while k < m {
-        to[k] = corner_class(c, xs, from, n, at + k);
-        k += 1;
-    }
-}
-
-// The edge that ends in vertex k, by the classes of its ends; walked where they leave it open.
-fn walk_into(b: Box, xs: &[i32], from: usize, n: usize, k: usize, first: u32, last: u32) -> Walk
-    requires { BoxInPlaces b × Upright b × Stretch xs.now from n × (k < n) × (first ≤ 24) × (last ≤ 24) }
-    ensures { result ≡ drawn (list_by b first last (ring_edge xs.now from n (edge_to n k))) }
-{
-    let w = walk_told(first, last);
-    if w.pieces == 0 {
-        return walk_edge(b, ring_edge(xs, from, n, edge_to(n, k)));
-    }
-    w
-}
-
-// The edges that end in the m vertices from vertex `at` on, after what those before them have shown. `first` is the class of the vertex
-// from which the first of them starts.
-fn classed_seen(
+// One pass: the box b, the box against which the vertices are classed, and the ring.
+#[derive(Clone, Copy)]
+struct RingPass<'a> {
     b: Box,
-    xs: &[i32],
-    from: usize,
-    n: usize,
-    at: usize,
-    m: usize,
-    first: u32,
-    classes: &[u32],
-    shown: Seen,
-) -> Seen
-    requires box_in_places { BoxInPlaces b × Upright b × Stretch xs.now from n × (at + m ≤ n) × (m ≤ length classes.now) }
-    requires first_value { (first ≡ corner_class (classing_box b xs.now from n) xs.now from (edge_to n at)) × Classes (classing_box b xs.now from n) xs.now from at m classes.now × (shown ≡ seen_to b xs.now from n at) }
-    ensures { result ≡ seen_to b xs.now from n (at + m) }
-{
-    let mut set = shown.set as u64;
-    let mut pieces = shown.pieces as u64;
-    let mut start = first;
-    let mut k: usize = 0;
-    while k < m {
-        let end = classes[k];
-        let w = walk_into(b, xs, from, n, at + k, start, end);
-        set = set | w.set;
-        pieces += w.pieces;
-        start = end;
-        k += 1;
+    classing: Box,
+    ring: Ring<'a>,
+    ghost placed: { BoxInPlaces b },
+    ghost upright: { Upright b },
+    ghost some: { 0 < ring.size },
+    ghost against: { classing ≡ classing_box b ring.outline.now ring.from ring.size },
+}
+
+impl<'a> RingPass<'a> {
+    fn corner_class(&self, k: usize) -> u32
+        requires { k < self.now.ring.size }
+        ensures { let r = self.now.ring in result ≡ corner_class self.now.classing r.outline.now r.from k }
+    {
+        vertex_class(self.classing, self.ring.x_of(k), self.ring.y_of(k))
     }
-    Seen {
-        set: set as u16,
-        pieces: pieces as u16,
+
+    // The classes of the vertices from vertex `at` on, one for each place of the list.
+    fn lay_classes(&self, at: usize, to: &mut [u32])
+        requires { at + length to.old ≤ self.now.ring.size }
+        ensures { let r = self.now.ring in Classes self.now.classing r.outline.now r.from at (length to.old) to.new }
+    {
+        for (k, class) in to.iter_mut().enumerate() {
+            *class = self.corner_class(at + k);
+        }
+    }
+
+    // The edge that ends in vertex k, by the classes of its ends; walked where they leave it open.
+    fn walk_into(&self, k: usize, first: u32, last: u32) -> Walk
+        requires { (k < self.now.ring.size) × (first ≤ 24) × (last ≤ 24) }
+        ensures { let r = self.now.ring in result ≡ drawn (list_by self.now.b first last (ring_edge r.outline.now r.from r.size (edge_to r.size k))) }
+    {
+        match walk_told(first, last) {
+            Some(w) => w,
+            None => walk_edge(self.b, self.ring.edge(edge_to(self.ring.size, k))),
+        }
+    }
+
+    // The edges that end in the vertices from vertex `at` on whose classes are listed, after what the edges before them have shown. `first` is
+    // the class of the vertex from which the first of them starts.
+    fn classed_seen(&self, at: usize, first: u32, classes: &[u32], shown: Seen) -> Seen
+        requires listed { let r = self.now.ring in (at + length classes.now ≤ r.size) × Classes self.now.classing r.outline.now r.from at (length classes.now) classes.now }
+        requires before { let r = self.now.ring in (first ≡ corner_class self.now.classing r.outline.now r.from (edge_to r.size at)) × (shown ≡ seen_to self.now.b r.outline.now r.from r.size at) }
+        ensures { let r = self.now.ring in result ≡ seen_to self.now.b r.outline.now r.from r.size (at + length classes.now) }
+    {
+        let mut set = shown.set as u64;
+        let mut pieces = shown.pieces as u64;
+        let mut start = first;
+        for (k, class) in classes.iter().enumerate() {
+            let end = *class;
+            let w = self.walk_into(at + k, start, end);
+            set = set | w.set;
+            pieces += w.pieces;
+            start = end;
+        }
+        Seen {
+            set: set as u16,
+            pieces: pieces as u16,
+        }
+    }
+
+    // The same for the m edges of one block, whose classes are laid out here.
+    fn block_seen(&self, at: usize, m: usize, shown: Seen) -> Seen
+        requires { let r = self.now.ring in (at < r.size) × (at + m ≤ r.size) × (m ≤ block) × (shown ≡ seen_to self.now.b r.outline.now r.from r.size at) }
+        ensures { let r = self.now.ring in result ≡ seen_to self.now.b r.outline.now r.from r.size (at + m) }
+    {
+        let mut room = [0u32; BLOCK];
+        let classes = &mut room[..m];
+        self.lay_classes(at, classes);
+        let first = self.corner_class(edge_to(self.ring.size, at));
+        self.classed_seen(at, first, classes, shown)
     }
 }
 
-// The same for one block, whose classes are laid out here; c is the classing box.
-fn block_seen(
-    b: Box,
-    c: Box,
-    xs: &[i32],
-    from: usize,
-    n: usize,
-    at: usize,
-    m: usize,
-    shown: Seen,
-) -> Seen
-    requires box_in_places { BoxInPlaces b × Upright b × Stretch xs.now from n × (at < n) × (at + m ≤ n) × (m ≤ block) }
-    requires c_value { (c ≡ classing_box b xs.now from n) × (shown ≡ seen_to b xs.now from n at) }
-    ensures { result ≡ seen_to b xs.now from n (at + m) }
+// The tiles and the pieces of the ring's edges. The while: it moves on by a block, and the last block is what remains.
+fn edges_seen(b: Box, ring: &Ring) -> Seen
+    requires { BoxInPlaces b × Upright b × (0 < ring.now.size) }
+    ensures { result ≡ edges_seen b ring.now.outline.now ring.now.from ring.now.size }
 {
-    let mut classes = [0u32; BLOCK];
-    lay_classes(c, xs, from, n, at, m, &mut classes);
-    let first = corner_class(c, xs, from, n, edge_to(n, at));
-    classed_seen(b, xs, from, n, at, m, first, &classes, shown)
-}
-
-fn smaller(a: usize, b: usize) -> usize
-    ensures { result ≡ min a b }
-{
-    if a <= b { a } else { b }
-}
-
-// The tiles and the pieces of the ring's edges.
-fn edges_seen(b: Box, xs: &[i32], from: usize, n: usize) -> Seen
-    requires { BoxInPlaces b × Upright b × Stretch xs.now from n × (0 < n) }
-    ensures { result ≡ edges_seen b xs.now from n }
-{
-    let c = classing_box(b, xs, from, n);
+    let pass = RingPass {
+        b,
+        classing: classing_box(b, ring),
+        ring: *ring,
+    };
     let mut s = Seen { set: 0, pieces: 0 };
     let mut at: usize = 0;
-    while at < n {
-        let m = smaller(n - at, BLOCK);
-        s = block_seen(b, c, xs, from, n, at, m, s);
+    while at < ring.size {
+        let m = (ring.size - at).min(BLOCK);
+        s = pass.block_seen(at, m, s);
         at += m;
     }
     s
 }
 
+// Does the box a cover the box b?
+#[tactic(auto, unfolding(ring::specs::RingBox::covers))]
 pub fn covers_box(a: Box, b: Box) -> bool
     ensures { result ≡ covers a b }
 {
-    if b.west < a.west {
-        return false;
-    }
-    if b.south < a.south {
-        return false;
-    }
-    if a.east < b.east {
-        return false;
-    }
-    b.north <= a.north
+    a.west <= b.west && a.south <= b.south && b.east <= a.east && b.north <= a.north
 }
 
 // The ring's tiles by all three clauses, and its pieces. The centre is looked at only where no edge has B. `own` is a box that covers the
 // ring's own, such as its region's: where it does not cover b, the ring's own does not either, and need not be found.
-pub fn ring_seen(b: Box, own: Box, xs: &[i32], from: usize, n: usize) -> Seen
-    requires { BoxInPlaces b × Upright b × Stretch xs.now from n × (0 < n) × (covers own (stretch_box xs.now from n) ≡ true) }
-    ensures { result ≡ ring_seen b xs.now from n }
+pub fn ring_seen(b: Box, own: Box, ring: &Ring) -> Seen
+    requires { BoxInPlaces b × Upright b × (0 < ring.now.size) × (covers own (stretch_box ring.now.outline.now ring.now.from ring.now.size) ≡ true) }
+    ensures { result ≡ ring_seen b ring.now.outline.now ring.now.from ring.now.size }
 {
-    let s = edges_seen(b, xs, from, n);
+    let s = edges_seen(b, ring);
     if (s.set >> 4) % 2 == 1 {
         return s;
     }
     if !covers_box(own, b) {
         return s;
     }
-    if !covers_box(stretch_box(xs, from, n), b) {
+    if !covers_box(ring.own_box(), b) {
         return s;
     }
-    if !ring_encloses(b, xs, from, n) {
+    if !ring.encloses(b) {
         return s;
     }
     Seen {

@@ -1,7 +1,7 @@
 -- What each call that changes a sheet answers and leaves, from the call's own contract (`Post`, which the checker generates from the source). Of a
 -- call's arguments `before` is the sheet at entry and `after` the sheet at exit. The cases are those of calls/specs/Says.
 -- A put of the region R into a slot:
---   put_means            it answers n exactly when case n holds;  put_either  which numbers these are, and no others
+--   put_means            its number is n exactly when case n holds;  put_either  which numbers these are, and no others
 --   put_kept             beside a number that is not 0 the sheet is as it was found
 --   put_stands           where it answers 0, R stands in the slot, and in every other slot what stood there, whoever wrote it
 --   put_row, put_column  a tile is then in the cell of the slot and another one, and the other way round, exactly when the rule finds it
@@ -15,9 +15,13 @@ use mathlib.Core.Path.{◌≡◌, refl, sym, ◌∙◌, ap}
 use mathlib.Core.Logic.{◌↔◌, ◌⊎◌, ◌≢◌, inl, inr}
 use Prim.Native.Nat.{ℕ, ◌≤◌, ◌<◌}
 use borrow.Author.Tests.{eq-eqb, ne_eqb}
+use Rattle.std.specs.Prelude.{Result}
 use Rattle.plane.specs.Points.{Lines}
 use Rattle.plane.specs.TileSet.{bit}
-use Rattle.region.specs.Region.{Region, region_of, nothing, outline}
+use Rattle.region.specs.declared.refusals.Refusal.{Refusal}
+use Rattle.region.specs.Refusals.{number_in}
+use Rattle.region.specs.Region.{Region, nothing, outline}
+use Rattle.region.specs.Outline.{drawn_by}
 use Rattle.region.proofs.Keeps.{broken_number}
 use Rattle.relation.specs.Relation.{RegionBox, RegionHas}
 use Rattle.layout.specs.Sheet.{Sheet, sheet_of, slots}
@@ -39,7 +43,7 @@ use Rattle.sheet.proofs.remove.Reads as remove_reads
 use Rattle.sheet.proofs.clear.Reads as clear_reads
 
 -- ---- a put
-module _ (κs : _) (a : _) (n : ℕ) (e : _) (post : put_reads.Post κs a n e) where
+module _ (κs : _) (a : _) (r : Result (Unit {0}) Refusal) (e : _) (post : put_reads.Post κs a r e) where
   abbrev put_before : Sheet
   put_before = sheet_of a.0.now a.1.0.now a.1.1.0.now
 
@@ -50,26 +54,26 @@ module _ (κs : _) (a : _) (n : ℕ) (e : _) (post : put_reads.Post κs a n e) w
   put_slot = a.1.1.1.0
 
   abbrev put_region : Region
-  put_region = region_of a.1.1.1.1.0.now a.1.1.1.1.1.0.now
+  put_region = drawn_by a.1.1.1.1.0
 
-  pub put_means : (m : ℕ) → (n ≡ m) ↔ PutSays put_before put_slot put_region m
+  pub put_means : (m : ℕ) → (number_in r ≡ m) ↔ PutSays put_before put_slot put_region m
   put_means m = rw post.0 (put_says put_before put_slot put_region m)
 
-  pub put_either : (n ≡ 0) ⊎ (((n ≡ 11) ⊎ ((n ≡ 8) ⊎ (n ≡ 12))) ⊎ ((1 ≤ n) × (n ≤ 7)))
-  put_either = go ((put_means n).0 refl)
+  pub put_either : (number_in r ≡ 0) ⊎ (((number_in r ≡ 11) ⊎ ((number_in r ≡ 8) ⊎ (number_in r ≡ 12))) ⊎ ((1 ≤ number_in r) × (number_in r ≤ 7)))
+  put_either = go ((put_means (number_in r)).0 refl)
     where
       go : {m : ℕ} → PutSays put_before put_slot put_region m → (m ≡ 0) ⊎ (((m ≡ 11) ⊎ ((m ≡ 8) ⊎ (m ≡ 12))) ⊎ ((1 ≤ m) × (m ≤ 7)))
       go (put_done ok kept) = inl refl
       go (put_refused u) = inr (inl (unchangeable_either put_before put_slot u))
       go (put_broken {n} {r} ok w) = inr (inr (broken_number put_region n r w.broken))
 
-  pub put_kept : n ≢ 0 → put_after ≡ put_before
+  pub put_kept : number_in r ≢ 0 → put_after ≡ put_before
   put_kept some = post.1 ∙ sym (numbers.put_refused put_before put_slot put_region (λ z. some (post.0 ∙ z)))
 
   pub put_touched : TouchesOnly put_slot put_before put_after
   put_touched = rw post.1 (put_touches put_before put_slot put_region)
 
-  module _ (done : n ≡ 0) where
+  module _ (done : number_in r ≡ 0) where
     put_zero : put_number put_before put_slot put_region ≡ 0
     put_zero = sym post.0 ∙ done
 
@@ -103,7 +107,7 @@ module _ (κs : _) (a : _) (n : ℕ) (e : _) (post : put_reads.Post κs a n e) w
         put_column L is t l = rw (put_cell k put_slot) (column_tile put_before put_slot put_region put_may.change.slot_in k h other put_may Q there L is t l)
 
 -- ---- a removal
-module _ (κs : _) (a : _) (n : ℕ) (e : _) (post : remove_reads.Post κs a n e) where
+module _ (κs : _) (a : _) (r : Result (Unit {0}) Refusal) (e : _) (post : remove_reads.Post κs a r e) where
   abbrev remove_before : Sheet
   remove_before = sheet_of a.0.now a.1.0.now a.1.1.0.now
 
@@ -113,24 +117,24 @@ module _ (κs : _) (a : _) (n : ℕ) (e : _) (post : remove_reads.Post κs a n e
   abbrev remove_slot : ℕ
   remove_slot = a.1.1.1.0
 
-  pub remove_means : (m : ℕ) → (n ≡ m) ↔ RemoveSays remove_before remove_slot m
+  pub remove_means : (m : ℕ) → (number_in r ≡ m) ↔ RemoveSays remove_before remove_slot m
   remove_means m = rw post.0 (remove_says remove_before remove_slot m)
 
-  pub remove_either : (n ≡ 0) ⊎ (((n ≡ 11) ⊎ ((n ≡ 8) ⊎ (n ≡ 12))) ⊎ (n ≡ 9))
-  remove_either = go ((remove_means n).0 refl)
+  pub remove_either : (number_in r ≡ 0) ⊎ (((number_in r ≡ 11) ⊎ ((number_in r ≡ 8) ⊎ (number_in r ≡ 12))) ⊎ (number_in r ≡ 9))
+  remove_either = go ((remove_means (number_in r)).0 refl)
     where
       go : {m : ℕ} → RemoveSays remove_before remove_slot m → (m ≡ 0) ⊎ (((m ≡ 11) ⊎ ((m ≡ 8) ⊎ (m ≡ 12))) ⊎ (m ≡ 9))
       go (remove_done ok R there) = inl refl
       go (remove_refused u) = inr (inl (unchangeable_either remove_before remove_slot u))
       go (remove_empty ok none) = inr (inr refl)
 
-  pub remove_kept : n ≢ 0 → remove_after ≡ remove_before
+  pub remove_kept : number_in r ≢ 0 → remove_after ≡ remove_before
   remove_kept some = post.1 ∙ sym (numbers.remove_refused remove_before remove_slot (λ z. some (post.0 ∙ z)))
 
   pub remove_touched : TouchesOnly remove_slot remove_before remove_after
   remove_touched = rw post.1 (remove_touches remove_before remove_slot)
 
-  module _ (done : n ≡ 0) where
+  module _ (done : number_in r ≡ 0) where
     remove_zero : remove_number remove_before remove_slot ≡ 0
     remove_zero = sym post.0 ∙ done
 
@@ -150,27 +154,27 @@ module _ (κs : _) (a : _) (n : ℕ) (e : _) (post : remove_reads.Post κs a n e
     )
 
 -- ---- a clearing
-module _ (κs : _) (a : _) (n : ℕ) (e : _) (post : clear_reads.Post κs a n e) where
+module _ (κs : _) (a : _) (r : Result (Unit {0}) Refusal) (e : _) (post : clear_reads.Post κs a r e) where
   abbrev clear_before : Sheet
   clear_before = sheet_of a.0.now a.1.0.now a.1.1.0.now
 
   abbrev clear_after : Sheet
   clear_after = sheet_of e.0.now e.1.0.now e.1.1.0.now
 
-  pub clear_means : (m : ℕ) → (n ≡ m) ↔ ClearSays clear_before m
+  pub clear_means : (m : ℕ) → (number_in r ≡ m) ↔ ClearSays clear_before m
   clear_means m = rw post.0 (clear_says clear_before m)
 
-  pub clear_either : (n ≡ 0) ⊎ (n ≡ 11)
-  clear_either = go ((clear_means n).0 refl)
+  pub clear_either : (number_in r ≡ 0) ⊎ (number_in r ≡ 11)
+  clear_either = go ((clear_means (number_in r)).0 refl)
     where
       go : {m : ℕ} → ClearSays clear_before m → (m ≡ 0) ⊎ (m ≡ 11)
       go (clear_done right) = inl refl
       go (clear_refused wrong) = inr refl
 
-  pub clear_kept : n ≢ 0 → clear_after ≡ clear_before
+  pub clear_kept : number_in r ≢ 0 → clear_after ≡ clear_before
   unfolding clear
   clear_kept some = post.1 ∙ simp (ne_eqb (clear_number clear_before) 0 (λ z. some (post.0 ∙ z)))
 
-  pub clear_blank : n ≡ 0 → clear_after ≡ blank
+  pub clear_blank : number_in r ≡ 0 → clear_after ≡ blank
   unfolding clear
   clear_blank done = post.1 ∙ simp (eq-eqb (clear_number clear_before) 0 (sym post.0 ∙ done))

@@ -1,12 +1,17 @@
 -- No second answer fits: two answers that meet the contract of a function for the same arguments are equal, with the lists at exit.
---   wrong_tables_only, wrong_lists_only, ring_count_only, is_empty_only, whole_number_only, change_number_only, cell_only    the answer
+--   wrong_tables_only, wrong_lists_only, ring_count_only, is_empty_only, cell_only    the answer
+--   whole_number_only, change_number_only    the number that an answer says, 0 where nothing is refused
 --   ends_only, outline_only              the numbers of the part
 --   row_only                             the cells and the place at which the part begins
 --   clear_only                           the three lists
 use mathlib.Core.Path.{◌≡◌, sym, ◌∙◌}
 use mathlib.Core.Bool.{Bool}
 use Prim.Native.Nat.{ℕ}
+use Rattle.std.specs.Prelude.{Result}
+use Rattle.region.specs.declared.refusals.Refusal.{Refusal}
+use Rattle.region.specs.Refusals.{number_in}
 use Rattle.layout.specs.Sheet.{sheet_of}
+use Rattle.storage.specs.declared.slots.Standing.{Standing}
 use Rattle.storage.proofs.lists.wrong_tables.Reads as wrong_tables_reads
 use Rattle.storage.proofs.lists.wrong_lists.Reads as wrong_lists_reads
 use Rattle.storage.proofs.lists.clear_lists.Reads as clear_reads
@@ -14,10 +19,10 @@ use Rattle.storage.proofs.slots.ring_count.Reads as ring_count_reads
 use Rattle.storage.proofs.slots.is_empty.Reads as is_empty_reads
 use Rattle.storage.proofs.slots.ends_at.Reads as ends_reads
 use Rattle.storage.proofs.slots.outline_at.Reads as outline_reads
-use Rattle.storage.proofs.refused.whole_number.Reads as whole_number_reads
-use Rattle.storage.proofs.refused.change_number.Reads as change_number_reads
-use Rattle.storage.proofs.table.cell_in.Reads as cell_reads
-use Rattle.storage.proofs.table.row_in.Reads as row_reads
+use Rattle.storage.proofs.refused.check_whole.Reads as whole_number_reads
+use Rattle.storage.proofs.refused.check_change.Reads as change_number_reads
+use Rattle.storage.proofs.table.Tables.cell.Reads as cell_reads
+use Rattle.storage.proofs.table.Tables.row.Reads as row_reads
 
 pub wrong_tables_only : (κs : _) (a : _) (r r' : Bool) (s s' : _) → wrong_tables_reads.Post κs a r s → wrong_tables_reads.Post κs a r' s' → r ≡ r'
 wrong_tables_only κs a r r' s s' p q = p ∙ sym q
@@ -31,11 +36,11 @@ ring_count_only κs a r r' s s' p q = p ∙ sym q
 pub is_empty_only : (κs : _) (a : _) (r r' : Bool) (s s' : _) → is_empty_reads.Post κs a r s → is_empty_reads.Post κs a r' s' → r ≡ r'
 is_empty_only κs a r r' s s' p q = p ∙ sym q
 
-pub whole_number_only : (κs : _) (a : _) (r r' : ℕ) (s s' : _) → whole_number_reads.Post κs a r s → whole_number_reads.Post κs a r' s' → r ≡ r'
-whole_number_only κs a r r' s s' p q = p ∙ sym q
+pub whole_number_only : (κs : _) (a : _) (r r' : Result Standing Refusal) (s s' : _) → whole_number_reads.Post κs a r s → whole_number_reads.Post κs a r' s' → number_in r ≡ number_in r'
+whole_number_only κs a r r' s s' p q = p.0 ∙ sym q.0
 
-pub change_number_only : (κs : _) (a : _) (r r' : ℕ) (s s' : _) → change_number_reads.Post κs a r s → change_number_reads.Post κs a r' s' → r ≡ r'
-change_number_only κs a r r' s s' p q = p ∙ sym q
+pub change_number_only : (κs : _) (a : _) (r r' : Result Standing Refusal) (s s' : _) → change_number_reads.Post κs a r s → change_number_reads.Post κs a r' s' → number_in r ≡ number_in r'
+change_number_only κs a r r' s s' p q = p.0 ∙ sym q.0
 
 pub cell_only : (κs : _) (a : _) (r r' : ℕ) (s s' : _) → cell_reads.Post κs a r s → cell_reads.Post κs a r' s' → r ≡ r'
 cell_only κs a r r' s s' p q = p ∙ sym q

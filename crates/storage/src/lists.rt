@@ -1,9 +1,12 @@
 // The three lists: rule 11, and every number to 0.
-ghost use Rattle.std.specs.Prelude.{◌≡◌, pos, length, replicate};
+ghost use Rattle.std.specs.Prelude.{◌≡◌};
+ghost use Rattle.region.specs.declared.refusals.Refusal.TheVariants.{SheetLists};
+ghost use Rattle.region.specs.Refusals.{number_in, number_if};
 ghost use Rattle.layout.specs.Sheet.{sheet_of, RightLists, wrong_tables, wrong_lists};
 ghost use Rattle.layout.specs.Layout.{blank};
 
 use layout::lists::{COORDINATES, RECORDS, RELATIONS};
+use region::refusals::Refusal;
 
 // Rule 11 for a reading, which is lent two of the lists.
 pub fn wrong_tables(records: &[u16], relations: &[u16]) -> bool
@@ -25,24 +28,14 @@ pub fn wrong_lists(xs: &[i32], records: &[u16], relations: &[u16]) -> bool
     wrong_tables(records, relations)
 }
 
-fn zero_i32(xs: &mut [i32])
-    ensures { xs.new ≡ replicate (length xs.old) (pos 0) }
+// 11, where the lists break it.
+pub fn check_lists(xs: &[i32], records: &[u16], relations: &[u16]) -> Result<(), Refusal>
+    ensures { number_in result ≡ number_if (wrong_lists (sheet_of xs.now records.now relations.now)) SheetLists }
 {
-    let mut i = 0;
-    while i < xs.len() {
-        xs[i] = 0;
-        i += 1;
+    if wrong_lists(xs, records, relations) {
+        return Err(Refusal::SheetLists);
     }
-}
-
-fn zero_u16(numbers: &mut [u16])
-    ensures { numbers.new ≡ replicate (length numbers.old) 0 }
-{
-    let mut i = 0;
-    while i < numbers.len() {
-        numbers[i] = 0;
-        i += 1;
-    }
+    Ok(())
 }
 
 // Every number to 0.
@@ -50,7 +43,7 @@ pub fn clear_lists(xs: &mut [i32], records: &mut [u16], relations: &mut [u16])
     requires { RightLists (sheet_of xs.old records.old relations.old) }
     ensures { sheet_of xs.new records.new relations.new ≡ blank }
 {
-    zero_i32(xs);
-    zero_u16(records);
-    zero_u16(relations);
+    xs.fill(0);
+    records.fill(0);
+    relations.fill(0);
 }

@@ -2,6 +2,7 @@
 --   inked_none, inked_text, inked_number      no text, one text, a number below 100,000
 --   inked_then                                texts, and then texts
 --   inked_as                                  the same texts under another name
+--   on_none, on_then, on_as                   the same on a page
 --   inked_put                                 where all of them have room, they stand in the buffer one behind the other, and nothing else has changed
 use mathlib.Core.Path.{◌≡◌, refl, sym, ◌∙◌, ap}
 use mathlib.Core.List.{List, [], ◌∷◌, ◌++◌}
@@ -13,7 +14,8 @@ use Rattle.names.specs.Numbers.{decimal}
 use Rattle.names.specs.Steps.{Put}
 use Rattle.names.proofs.Decimals.{places_are}
 use Rattle.names.proofs.Putting.{put_none, put_then, put_wrote, room_first, room_next}
-use Rattle.svg.specs.Ink.{ink_page, ink_place, ink_text, Inked}
+use Rattle.svg.specs.declared.page.Page.{Page}
+use Rattle.svg.specs.Ink.{ink_page, ink_place, ink_text, Inked, InkedOn}
 
 pub inked_none : (b : List ℕ) (at : ℕ) → Inked b at [] at b
 unfolding ink_page ink_place
@@ -45,6 +47,15 @@ inked_then {b} {d} {c} {at} {m} {r} ts us i j =
       place = j.place ∙ (λ k. ink_place (i.page k) (i.place k) us) ∙ sym (place_then b at ts us);
       page = j.page ∙ (λ k. ink_page (i.page k) (i.place k) us) ∙ sym (page_then b at ts us);
     }
+
+pub on_none : (p : Page) → InkedOn p [] p
+on_none p = record { buffer = refl; inked = inked_none p.out.now p.at }
+
+pub on_as : {p q : Page} {ts us : List (List ℕ)} → ts ≡ us → InkedOn p ts q → InkedOn p us q
+on_as e i = record { buffer = i.buffer; inked = inked_as e i.inked }
+
+pub on_then : {p m q : Page} (ts us : List (List ℕ)) → InkedOn p ts m → InkedOn m us q → InkedOn p (ts ++ us) q
+on_then ts us i j = record { buffer = j.buffer ∙ i.buffer; inked = inked_then ts us i.inked j.inked }
 
 pub inked_put : {c : List ℕ} {r : ℕ} (b : List ℕ) (at : ℕ) (ts : List (List ℕ)) → at + length (ink_text ts) ≤ length b → Inked b at ts r c → Put b at (ink_text ts) r c
 unfolding ink_page ink_place ink_text

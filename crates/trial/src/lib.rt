@@ -10,21 +10,24 @@ ghost use Rattle.region.specs.Rules.{Keeps};
 ghost use Rattle.relation.specs.Relation.{region_box};
 ghost use Rattle.trial.specs.Given.{box_with};
 
-use calls::Reading;
+use calls::number_of;
 use outline::check_region;
 use pair::pair_of;
 use plane::Box;
 use reading::read_cell;
 use reading::several::read_cells;
-use region::Checked;
+use region::Outline;
 use relation::{region_box, region_seen};
 
 // The number and 65,536 times the ring of a refusal, 0 where the region is accepted.
 pub fn trial_check(outline: &[i32], ends: &[u16]) -> u32 {
-    let checked = check_region(outline, ends);
-    match checked {
-        Checked::Accepted => 0,
-        Checked::Refused { number, ring } => number as u32 + 65536 * ring as u32,
+    let outline = Outline {
+        coordinates: outline,
+        ends,
+    };
+    match check_region(outline) {
+        Ok(()) => 0,
+        Err(broken) => u16::from(broken.rule) as u32 + 65536 * broken.ring as u32,
     }
 }
 
@@ -32,9 +35,17 @@ pub fn trial_check(outline: &[i32], ends: &[u16]) -> u32 {
 pub fn trial_relation(first: &[i32], first_ends: &[u16], second: &[i32], second_ends: &[u16]) -> u32
     requires { Keeps 4 (region_of first.now first_ends.now) × Keeps 4 (region_of second.now second_ends.now) }
 {
-    let own = region_box(first, first_ends);
-    let b = region_box(second, second_ends);
-    let seen = region_seen(b, own, first, first_ends);
+    let first = Outline {
+        coordinates: first,
+        ends: first_ends,
+    };
+    let second = Outline {
+        coordinates: second,
+        ends: second_ends,
+    };
+    let own = region_box(first);
+    let b = region_box(second);
+    let seen = region_seen(b, own, first);
     seen.set as u32 + 65536 * seen.pieces as u32
 }
 
@@ -66,29 +77,42 @@ pub fn trial_seen(
         east: own_east,
         north: own_north,
     };
-    let seen = region_seen(b, own, outline, ends);
+    let outline = Outline {
+        coordinates: outline,
+        ends,
+    };
+    let seen = region_seen(b, own, outline);
     seen.set as u32 + 65536 * seen.pieces as u32
 }
 
 // The relation of the first region to the second and 65,536 times that of the second to the first; 0 beside a refusal.
 pub fn trial_pair(first: &[i32], first_ends: &[u16], second: &[i32], second_ends: &[u16]) -> u32 {
-    let a = pair_of(first, first_ends, second, second_ends);
-    a.first as u32 + 65536 * a.second as u32
+    let first = Outline {
+        coordinates: first,
+        ends: first_ends,
+    };
+    let second = Outline {
+        coordinates: second,
+        ends: second_ends,
+    };
+    match pair_of(first, second) {
+        Ok(a) => a.first as u32 + 65536 * a.second as u32,
+        Err(_) => 0,
+    }
 }
 
 // What is written of a reading of one cell, and the number of a list of pairs.
 pub fn trial_cell(records: &[u16], relations: &[u16], primary: u32, reference: u32) -> u32 {
     let p = (primary % 65536) as u16;
     let q = (reference % 65536) as u16;
-    let reading = read_cell(records, relations, p, q);
-    match reading {
-        Reading::Relation(relation) => relation as u32,
-        Reading::Refused(number) => 1000 + number as u32,
+    match read_cell(records, relations, p, q) {
+        Ok(relation) => relation as u32,
+        Err(refusal) => 1000 + u16::from(refusal) as u32,
     }
 }
 
 pub fn trial_cells(records: &[u16], relations: &[u16], pairs: &[u16], results: &mut [u16]) -> u32 {
-    read_cells(records, relations, pairs, results) as u32
+    number_of(read_cells(records, relations, pairs, results)) as u32
 }
 
 // A put, and a load of a card.
@@ -101,9 +125,13 @@ pub fn trial_put(
     ends: &[u16],
 ) -> u32 {
     let s = (slot % 65536) as u16;
-    sheet::put(xs, records, relations, s, outline, ends) as u32
+    let outline = Outline {
+        coordinates: outline,
+        ends,
+    };
+    number_of(sheet::put(xs, records, relations, s, outline)) as u32
 }
 
 pub fn trial_load(xs: &mut [i32], records: &mut [u16], relations: &mut [u16], bytes: &[u8]) -> u32 {
-    loading::load(xs, records, relations, bytes) as u32
+    number_of(loading::load(xs, records, relations, bytes)) as u32
 }

@@ -11,10 +11,11 @@ use native.Mathlib.Omega.{arith}
 use lib.ListN.{length, get_or, take, drop}
 use lib.Seq.{take-append_seam, get_or-append-add, get_or-drop}
 use borrow.Author.Tests.{eq-eqb, ne_eqb}
+use Rattle.std.specs.Prelude.{Result}
+use Rattle.region.specs.declared.refusals.Refusal.{Refusal}
 use Rattle.layout.specs.Sheet.{Sheet, sheet_of}
 use Rattle.layout.specs.Slots.{parcel_at}
-use Rattle.writing.specs.declared.Written.{Written}
-use Rattle.writing.specs.Write.{card_of, write_number, written, write}
+use Rattle.writing.specs.Write.{Written, written_in, card_of, write_number, written, write}
 use Rattle.writing.specs.Says.{WriteSays, write_done, write_lists, write_damage, write_short}
 use Rattle.writing.proofs.Says.{write_says}
 use Rattle.writing.proofs.write.Reads as write_reads
@@ -26,7 +27,10 @@ behind l m j past =
     ap (λ (k : ℕ). get_or (l ++ drop (length l) m) k 0) (sym q) ∙ get_or-append-add l (drop (length l) m) (j - length l) 0 ∙ get_or-drop (length l) m (j - length l) 0
     ∙ ap (λ (k : ℕ). get_or m k 0) q
 
-module _ (κs : _) (a : _) (r : Written) (e : _) (post : write_reads.Post κs a r e) where
+module _ (κs : _) (a : _) (answer : Result ℕ Refusal) (e : _) (post : write_reads.Post κs a answer e) where
+  abbrev r : Written
+  r = written_in answer
+
   abbrev write_sheet : Sheet
   write_sheet = sheet_of a.0.now a.1.0.now a.1.1.0.now
 

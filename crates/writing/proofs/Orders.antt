@@ -9,7 +9,8 @@ use lib.Dec.{ltb}
 use lib.ListN.{length}
 use Rattle.plane.specs.Choice.{pick}
 use Rattle.region.specs.Region.{Parcel}
-use Rattle.region.specs.Refusals.{number, number_if, or_else, sheet_lists, sheet_damaged, buffer_short}
+use Rattle.region.specs.declared.refusals.Refusal.TheVariants.{SheetLists, SheetDamaged, BufferShort}
+use Rattle.region.specs.Refusals.{number, number_if, or_else}
 use Rattle.layout.specs.Sheet.{Sheet, slots, wrong_lists}
 use Rattle.layout.specs.Standing.{parcels_below, rings_below, vertices_below}
 use Rattle.layout.specs.Slots.{parcel_at}
@@ -20,12 +21,12 @@ use Rattle.card.specs.Layout.{parcels_at, rings_at, vertices_at}
 use Rattle.writing.specs.Write.{entry_part, end_part, vertex_part, card_of, write_number}
 
 pub write_order : (s : Sheet) (buffer : List ℕ) → write_number s buffer
-    ≡ pick (wrong_lists s) (number sheet_lists) (pick (damaged s) (number sheet_damaged) (number_if (ltb (length buffer) (length (card_of (parcel_at s)))) buffer_short))
+    ≡ pick (wrong_lists s) (number SheetLists) (pick (damaged s) (number SheetDamaged) (number_if (ltb (length buffer) (length (card_of (parcel_at s)))) BufferShort))
 unfolding write_number whole_number
 write_order s buffer = go (wrong_lists s) (damaged s) (ltb (length buffer) (length (card_of (parcel_at s))))
   where
-    go : (a d t : Bool) → or_else (or_else (number_if a sheet_lists) (number_if d sheet_damaged)) (number_if t buffer_short)
-        ≡ pick a (number sheet_lists) (pick d (number sheet_damaged) (number_if t buffer_short))
+    go : (a d t : Bool) → or_else (or_else (number_if a SheetLists) (number_if d SheetDamaged)) (number_if t BufferShort)
+        ≡ pick a (number SheetLists) (pick d (number SheetDamaged) (number_if t BufferShort))
     go true d t = refl
     go false true t = refl
     go false false t = refl

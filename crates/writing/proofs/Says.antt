@@ -10,7 +10,8 @@ use lib.ListN.{length}
 use borrow.Author.Tests.{ltb-true, ltb-false, lt-ltb, le-ltb}
 use Rattle.plane.specs.Choice.{pick}
 use Rattle.plane.proofs.Logic.{clash, is_true}
-use Rattle.region.specs.Refusals.{number, number_if, buffer_short, sheet_lists, sheet_damaged}
+use Rattle.region.specs.declared.refusals.Refusal.TheVariants.{BufferShort, SheetLists, SheetDamaged}
+use Rattle.region.specs.Refusals.{number, number_if}
 use Rattle.layout.specs.Sheet.{Sheet, wrong_lists}
 use Rattle.layout.specs.Slots.{parcel_at}
 use Rattle.layout.specs.Damage.{damaged}
@@ -25,7 +26,7 @@ module _ (s : Sheet) (buffer : List ℕ) where
   least = length (card_of (parcel_at s))
 
   write_by : (a d t : Bool) → wrong_lists s ≡ a → damaged s ≡ d → ltb (length buffer) least ≡ t
-      → write_number s buffer ≡ pick a (number sheet_lists) (pick d (number sheet_damaged) (number_if t buffer_short))
+      → write_number s buffer ≡ pick a (number SheetLists) (pick d (number SheetDamaged) (number_if t BufferShort))
   write_by a d t ea ed et = write_order s buffer ∙ rw (ea, ed, et) refl
 
   write_back : {n : ℕ} → WriteSays s buffer n → write_number s buffer ≡ n

@@ -2,6 +2,7 @@
 --   totals_le       the totals are those that a header may count
 --   card_size       the card's length, by the totals;  card_room  and by its parts
 --   card_steps      the header, the entries, the ring ends and the vertices, stored one after the other: the card
+--   written_only    two results that say the same are the same
 --   write_refused, write_short, write_done     what writing answers, and the buffer at exit
 use mathlib.Core.Path.{◌≡◌, refl, sym, ◌∙◌, ap}
 use mathlib.Core.Logic.{◌≢◌}
@@ -14,8 +15,12 @@ use lib.IntN.{ℤ}
 use lib.ListN.{length}
 use borrow.Author.Tests.{lt-ltb, le-ltb, ne_eqb}
 use Rattle.region.specs.Region.{Parcel}
-use Rattle.region.specs.Refusals.{number_if, buffer_short}
-use Rattle.region.proofs.OrElse.{or_else_first, or_else_next}
+use Rattle.std.specs.Prelude.{Result, Ok, Err}
+use Rattle.region.specs.declared.refusals.Refusal.{Refusal}
+use Rattle.region.specs.declared.refusals.Refusal.TheVariants.{BufferShort}
+use Rattle.region.specs.Refusals.{number_if}
+use Rattle.region.proofs.OrElse.{or_else_first, or_else_next, number_some}
+use Rattle.region.proofs.Answers.{number_only}
 use Rattle.layout.specs.Sheet.{Sheet, slots}
 use Rattle.layout.specs.Standing.{StandTogether, parcels_below, rings_below, vertices_below}
 use Rattle.layout.specs.Slots.{in_slot, parcel_at}
@@ -26,9 +31,8 @@ use Rattle.endian.specs.Bytes.{joined}
 use Rattle.endian.specs.Placed.{placed, word_bytes}
 use Rattle.endian.proofs.Placed.{placed_append, placed_whole}
 use Rattle.card.specs.Layout.{most_card_parcels, most_card_rings, most_card_vertices, parcels_at, length_of}
-use Rattle.writing.specs.declared.Written.{Written}
 use Rattle.writing.specs.declared.Totals.{Totals}
-use Rattle.writing.specs.Write.{header_of, entry_part, end_part, vertex_part, card_of, write_number, written, write}
+use Rattle.writing.specs.Write.{Written, written_in, header_of, entry_part, end_part, vertex_part, card_of, write_number, written, write}
 use Rattle.writing.specs.Steps.{totals_of, entries_of, ends_of, vertices_of}
 use Rattle.writing.proofs.Lengths.{entries_length, ends_length, vertices_length, written_length}
 use Rattle.writing.proofs.Parts.{TotalsAre, totals_are, entries_are, ends_are, vertices_are}
@@ -86,6 +90,13 @@ module _ (xs : List ℤ) (records : List ℕ) (whole : Whole xs records) where
       )
 
 -- ---- the call
+-- two results that say the same are the same
+pub written_only : (a b : Result ℕ Refusal) → written_in a ≡ written_in b → a ≡ b
+written_only (Ok v) (Ok w) e = ap (λ (n : ℕ). Ok n) (ap (λ (x : Written). x.length) e)
+written_only (Ok v) (Err k) e = absurd (number_some k (sym (ap (λ (x : Written). x.number) e)))
+written_only (Err j) (Ok w) e = absurd (number_some j (ap (λ (x : Written). x.number) e))
+written_only (Err j) (Err k) e = ap (λ (r : Refusal). Err r) (number_only j k (ap (λ (x : Written). x.number) e))
+
 module _ (s : Sheet) (buffer : List ℕ) where
   abbrev answer : (number length : ℕ) → Written
   answer number length = record { number = number; length = length }
@@ -104,12 +115,12 @@ module _ (s : Sheet) (buffer : List ℕ) where
 
   pub write_refused : {n : ℕ} → n ≡ whole_number s → n ≢ 0 → (answer n 0 ≡ written s buffer) × (buffer ≡ write s buffer)
   unfolding write_number
-  write_refused {n} e z = refused (e ∙ sym (or_else_first (whole_number s) (number_if short buffer_short) (λ q. z (e ∙ q)))) z
+  write_refused {n} e z = refused (e ∙ sym (or_else_first (whole_number s) (number_if short BufferShort) (λ q. z (e ∙ q)))) z
 
   module _ (whole : whole_number s ≡ 0) where
-    next : write_number s buffer ≡ number_if short buffer_short
+    next : write_number s buffer ≡ number_if short BufferShort
     unfolding write_number
-    next = or_else_next (whole_number s) (number_if short buffer_short) whole
+    next = or_else_next (whole_number s) (number_if short BufferShort) whole
 
     pub write_short : {n : ℕ} → n ≡ size → length buffer < n → (answer 10 0 ≡ written s buffer) × (buffer ≡ write s buffer)
     write_short e h = refused (sym (next ∙ rw (lt-ltb (length buffer) size (omega arith)) refl)) (λ q. omega arith)

@@ -5,11 +5,14 @@
 --   entry_part, end_part, vertex_part  the three parts of the card of what stands in the slots below n
 --   card_of st              the card of the parcels st, in rising slot order. Word by word: proofs/Orders, `card_words`
 --   write_number s buffer   the refusal of writing the sheet s into the buffer, or 0
---   written s buffer        what writing answers: number and length;  write s buffer  the buffer at exit
-use Rattle.std.specs.Prelude.{Bool, List, [], ◌∷◌, ◌++◌, ℕ, ◌*◌, ltb, eqb, length, drop}
+--   Written                 what writing answers: 0 and the card's length, or the number of the refusal and 0
+--   written_in r            what a result of the function says so;  written s buffer  what writing answers;  write s buffer  the buffer at exit
+use Rattle.std.specs.Prelude.{Bool, List, [], ◌∷◌, ◌++◌, ℕ, ◌*◌, ltb, eqb, length, drop, Result, Ok, Err}
 use Rattle.plane.specs.Choice.{pick}
 use Rattle.region.specs.Region.{Parcel, last_end}
-use Rattle.region.specs.Refusals.{number_if, or_else, buffer_short}
+use Rattle.region.specs.declared.refusals.Refusal.TheVariants.{BufferShort}
+use Rattle.region.specs.declared.refusals.Refusal.{Refusal}
+use Rattle.region.specs.Refusals.{number, number_if, or_else}
 use Rattle.layout.specs.Sheet.{Sheet, slots}
 use Rattle.layout.specs.Standing.{occupied, end_list, coordinate_list, parcels_below, rings_below, vertices_below}
 use Rattle.layout.specs.Slots.{parcel_at}
@@ -17,7 +20,6 @@ use Rattle.layout.specs.Changes.{whole_number}
 use Rattle.endian.specs.Bytes.{u16_bytes, joined}
 use Rattle.endian.specs.Placed.{word_bytes, number_bytes}
 use Rattle.card.specs.Layout.{parcels_at, rings_at, vertices_at}
-use Rattle.writing.specs.declared.Written.{Written}
 
 abbrev pub header_of : (p r v : ℕ) → List ℕ
 header_of p r v = p ∷ r ∷ v ∷ parcels_at ∷ rings_at p ∷ vertices_at p r ∷ []
@@ -40,7 +42,15 @@ card_of st =
     ++ (entry_part st slots ++ (end_part st slots ++ vertex_part st slots))
 
 unfoldable pub write_number : Sheet → List ℕ → ℕ
-write_number s buffer = or_else (whole_number s) (number_if (ltb (length buffer) (length (card_of (parcel_at s)))) buffer_short)
+write_number s buffer = or_else (whole_number s) (number_if (ltb (length buffer) (length (card_of (parcel_at s)))) BufferShort)
+
+pub record Written : Type 0 where
+  pub number : ℕ
+  pub length : ℕ
+
+abbrev pub written_in : Result ℕ Refusal → Written
+written_in (Ok n) = record { number = 0; length = n }
+written_in (Err k) = record { number = number k; length = 0 }
 
 unfoldable pub written : Sheet → List ℕ → Written
 written s buffer =

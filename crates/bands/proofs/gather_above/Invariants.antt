@@ -11,7 +11,4 @@ abbrev pub downward : List ℕ → ℕ → ℕ
 downward t k = get_or t (bands - suc k) 0
 
 abbrev pub invariant-loop-b : goal.invariant-loop-b
-invariant-loop-b l = (l.b ≤ bands) × (length l.to ≡ bands) × (l.word ≡ joined_to (downward l.t) (bands - l.b)) × ((a : ℕ) → l.b ≤ a → a < bands → get_or l.to a 0 ≡ joined_to (downward l.t) (bands - a))
-
-abbrev pub decreases-loop-b : goal.decreases-loop-b
-decreases-loop-b l = l.b
+invariant-loop-b l = (length l.above ≡ bands) × (l.joined ≡ joined_to (downward l.words) (bands - l.b)) × ((a : ℕ) → l.b ≤ a → a < bands → get_or l.above a 0 ≡ joined_to (downward l.words) (bands - a))

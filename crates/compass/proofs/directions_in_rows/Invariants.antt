@@ -1,12 +1,8 @@
 use mathlib.Core.Path.{◌≡◌}
-use Prim.Native.Nat.{◌≤◌, ◌-◌}
 use Rattle.plane.specs.TileSet.{set_of}
 use Rattle.compass.specs.Differences.{direction_at}
 use Rattle.compass.proofs.DirectionSets.{among}
 use Rattle.compass.proofs.directions_in_rows.Given as goal
 
 abbrev pub invariant-loop-columns : goal.invariant-loop-columns
-invariant-loop-columns l = (l.columns ≤ 5) × (l.directions ≡ set_of (among (direction_at l.first l.second l.rows) l.columns) 9)
-
-abbrev pub decreases-loop-columns : goal.decreases-loop-columns
-decreases-loop-columns l = 5 - l.columns
+invariant-loop-columns l = l.directions ≡ set_of (among (direction_at l.first l.second l.rows) l.columns) 9

@@ -1,13 +1,13 @@
-use mathlib.Core.Path.{sym}
-use native.Mathlib.Omega.{arith}
+use Rattle.std.proofs.Common.{sym, arith, Less, Equal, Greater}
+use Rattle.std.specs.Cmp.{ranked}
 use Rattle.compass.proofs.Directions.{side_means}
 use Rattle.compass.proofs.side_of.Goals as goal
 
-pub returns-then-difference-lt-NONE : goal.returns-then-difference-lt-NONE
-returns-then-difference-lt-NONE c = (sym ((side_means 0 c.args.difference 2 (omega arith)).1 (omega arith)), omega arith)
+pub returns-in-Less : goal.returns-in-Less
+returns-in-Less c = let d = c.args.difference in (sym ((side_means 0 d 2 (omega arith)).1 (ranked d 2 Less c.in-Less.ensures)), omega arith)
 
-pub returns-then-difference-eq-NONE : goal.returns-then-difference-eq-NONE
-returns-then-difference-eq-NONE c = (sym ((side_means 1 c.args.difference 2 (omega arith)).1 (omega arith)), omega arith)
+pub returns-in-Equal : goal.returns-in-Equal
+returns-in-Equal c = let d = c.args.difference in (sym ((side_means 1 d 2 (omega arith)).1 (ranked d 2 Equal c.in-Equal.ensures)), omega arith)
 
-pub returns : goal.returns
-returns c = (sym ((side_means 2 c.args.difference 2 (omega arith)).1 (omega arith)), omega arith)
+pub returns-in-Greater : goal.returns-in-Greater
+returns-in-Greater c = let d = c.args.difference in (sym ((side_means 2 d 2 (omega arith)).1 (ranked d 2 Greater c.in-Greater.ensures)), omega arith)

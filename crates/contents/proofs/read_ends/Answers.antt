@@ -1,72 +1,57 @@
-use mathlib.Core.Path.{◌∙◌, ap}
+use mathlib.Core.Path.{◌≡◌, ◌∙◌, ap}
 use mathlib.Core.List.{List, ◌++◌}
 use Prim.Native.Nat.{ℕ, ◌+◌, ◌*◌, ◌≤◌}
 use native.Mathlib.Omega.{arith}
-use lib.ListN.{length, drop}
-use Rattle.plane.specs.Lists.{tab}
+use lib.ListN.{length, take, drop, length-take}
+use Rattle.plane.proofs.Lists.{tab_same}
 use Rattle.region.specs.Region.{most_rings}
 use Rattle.endian.specs.Bytes.{u16_at}
-use Rattle.card.specs.Layout.{most_card_parcels, most_card_rings, rings_at, vertices_at}
-use Rattle.card.specs.Reading.{parcel_count, first_ring, ends_at}
+use Rattle.card.specs.Layout.{most_card_parcels, most_card_rings, vertices_at}
+use Rattle.card.specs.Reading.{ends_at}
 use Rattle.card.proofs.Bounds.{RingPart, entry_there, rings_there}
-use Rattle.card.proofs.Filling.{filling_none, filling_more, filling_all}
 use Rattle.contents.proofs.read_ends.Goals as goal
 use Rattle.contents.proofs.read_ends.Goals.{After-first_ring}
 
-abbrev word : List ℕ → ℕ → ℕ → ℕ
-word card k i = u16_at card (rings_at (parcel_count card) + 2 * (first_ring card k + i))
+-- how many are read, and from where;  the part of the list that they fill
+module _ (c : After-first_ring) where
+  ring_part : RingPart c.args.card.now c.args.k
+  ring_part = rings_there c.args.card.now c.requires.0 c.args.k c.requires.1
 
--- the numbers before the loop: how many, and from where
-part : (c : After-first_ring)
-    → let n = c.count_at-n.result in
-    let from = c.rings_at.result + 2 * c.first_ring.result in
-    (n ≤ most_rings) × (from ≤ vertices_at most_card_parcels most_card_rings) × (from + 2 * n ≤ length c.args.card.now)
-part c =
-    let r : RingPart c.args.card.now c.args.k = rings_there c.args.card.now c.requires.0 c.args.k c.requires.1 in
-    let a = c.count_at-n.ensures in
-    let b = c.rings_at.ensures in
-    let d = c.first_ring.ensures in
-    (omega (arith, r.few, a), omega (arith, r.low, r.start, b, d), omega (arith, r.inside, a, b, d))
+  few : c.count_at-n.result ≤ most_rings
+  few = omega (arith, ring_part.few, c.count_at-n.ensures.0)
+
+  low : c.rings_at.result + 2 * c.first_ring.result ≤ vertices_at most_card_parcels most_card_rings
+  low = omega (arith, ring_part.low, ring_part.start, c.rings_at.ensures, c.first_ring.ensures)
+
+  lent : c.count_at-n.result ≡ length (take c.count_at-n.result c.args.ends.now)
+  lent = omega (arith, length-take c.count_at-n.result c.args.ends.now, few, c.requires.2)
 
 pub count_at-n-requires : goal.count_at-n-requires
 count_at-n-requires c = entry_there c.args.card.now c.requires.0.header c.args.k c.requires.1
 
+pub invariant_of-headed : goal.invariant_of-headed
+invariant_of-headed c = record { header = c.requires.0.header }
+
 pub overflow_mul-from : goal.overflow_mul-from
-overflow_mul-from c = record { fits = omega (arith, (part (goal.at.overflow_mul-from c).After-first_ring).1) }
+overflow_mul-from c = record { fits = omega (arith, low (goal.at.overflow_mul-from c).After-first_ring) }
 
 pub overflow_add-from : goal.overflow_add-from
-overflow_add-from c = record { fits = omega (arith, (part (goal.at.overflow_add-from c).After-first_ring).1) }
+overflow_add-from c = record { fits = omega (arith, low (goal.at.overflow_add-from c).After-first_ring) }
 
-pub loop-i-init : goal.loop-i-init
-loop-i-init c = filling_none (word c.args.card.now c.args.k) 0 _ c.args.ends.now
+pub slice_bounds-read_all-end : goal.slice_bounds-read_all-end
+slice_bounds-read_all-end c = omega (arith, few (goal.at.slice_bounds-read_all-end c).After-first_ring, c.requires.2)
 
-pub overflow_mul-i : goal.overflow_mul-i
-overflow_mul-i c = record { fits = omega (arith, (part (goal.at.overflow_mul-i c).After-first_ring).0) }
+pub slice_bounds-read_all-end-2 : goal.slice_bounds-read_all-end-2
+slice_bounds-read_all-end-2 c = lent (goal.at.slice_bounds-read_all-end-2 c).After-first_ring
 
-pub overflow_add-from-in-loop-i : goal.overflow_add-from-in-loop-i
-overflow_add-from-in-loop-i c = let p = part (goal.at.overflow_add-from-in-loop-i c).After-first_ring in record { fits = omega (arith, p.0, p.1) }
+pub read_all-requires : goal.read_all-requires
+read_all-requires c =
+    let s = (goal.at.read_all-requires c).After-first_ring in
+    omega (arith, lent s, (ring_part s).inside, c.count_at-n.ensures.0, c.rings_at.ensures, c.first_ring.ensures)
 
-pub u16_at-requires : goal.u16_at-requires
-u16_at-requires c = omega (arith, (part (goal.at.u16_at-requires c).After-first_ring).2)
-
-pub offset_bounds-ends-i : goal.offset_bounds-ends-i
-offset_bounds-ends-i c = record { fits = omega (arith, (part (goal.at.offset_bounds-ends-i c).After-first_ring).0) }
-
-pub bounds-ends-i : goal.bounds-ends-i
-bounds-ends-i c = omega (arith, (part (goal.at.bounds-ends-i c).After-first_ring).0, c.loop-i.invariant.1, c.requires.2)
-
-pub loop-i-preserved : goal.loop-i-preserved
-loop-i-preserved c =
-    filling_more (word c.args.card.now c.args.k) 0 _ c.args.ends.now c.loop-i.i c.loop-i.ends (omega arith) (omega (arith, (part (goal.at.loop-i-preserved c).After-first_ring).0, c.requires.2)) c.loop-i.invariant
-    (c.u16_at.ensures ∙ ap (u16_at c.args.card.now) (omega (arith, c.rings_at.ensures, c.first_ring.ensures)))
-
-pub shape_of-ends : goal.shape_of-ends
-shape_of-ends c = c.loop-i.invariant.1
-
-pub returns : goal.returns
+pub returns-clause-ends_after : goal.returns-clause-ends_after
 unfolding ends_at
-returns c =
-    let p = c.loop-i in
-    let n = c.count_at-n.ensures in
-    let all = filling_all (word c.args.card.now c.args.k) 0 _ c.args.ends.now p.i p.ends (omega arith) (omega (arith, (part (goal.at.returns c).After-first_ring).0, c.requires.2)) p.invariant in
-    record { value = n; ends_after = all ∙ ap (λ (m : ℕ). tab (word c.args.card.now c.args.k) m ++ drop c.count_at-n.result c.args.ends.now) n }
+returns-clause-ends_after c =
+    let s = (goal.at.returns-clause-ends_after c).After-first_ring in
+    ap (λ (l : List ℕ). l ++ drop c.count_at-n.result c.args.ends.now)
+    (c.read_all.ensures ∙ rw (← lent s, c.rings_at.ensures, c.first_ring.ensures, c.count_at-n.ensures.0) (tab_same _ _ _ (λ i l. ap (u16_at c.args.card.now) (omega arith))))

@@ -1,5 +1,5 @@
 use mathlib.Core.Path.{◌≡◌}
-use Prim.Native.Nat.{ℕ, ◌≤◌, ◌<◌, ◌-◌, ◌/◌, ◌%◌}
+use Prim.Native.Nat.{ℕ, ◌<◌, ◌/◌, ◌%◌}
 use lib.ListN.{length, get_or}
 use Rattle.drawn.specs.Steps.{value_by}
 use Rattle.drawn.proofs.cells_drawn.Given as goal
@@ -7,8 +7,5 @@ use Rattle.drawn.proofs.cells_drawn.Given as goal
 -- The loop's invariant: the cells before k have their values.
 
 abbrev pub invariant-loop-k : goal.invariant-loop-k
-invariant-loop-k l = (l.k ≤ 9) × (length l.cells ≡ 9)
+invariant-loop-k l = (length l.cells ≡ 9)
     × ((j : ℕ) → j < l.k → get_or l.cells j 0 ≡ value_by l.a l.b l.first l.second (j / 3) (j % 3))
-
-abbrev pub decreases-loop-k : goal.decreases-loop-k
-decreases-loop-k l = 9 - l.k

@@ -3,7 +3,8 @@ use mathlib.Core.List.{List}
 use Prim.Native.Nat.{ℕ, ◌≤◌}
 use Rattle.plane.specs.declared.Box.{Box}
 use Rattle.plane.specs.Placed.{BoxInPlaces}
-use Rattle.region.specs.Region.{Region, region_of}
+use Rattle.region.specs.Region.{Region}
+use Rattle.region.specs.Outline.{drawn_by}
 use Rattle.region.specs.Rules.{Keeps}
 use Rattle.relation.specs.Relation.{region_box}
 use Rattle.relation.proofs.Regions.{region_box_in_places}
@@ -11,7 +12,7 @@ use Rattle.matrix.specs.declared.GridLines.{GridLines}
 use Rattle.matrix.specs.Kept.{grid_of}
 use Rattle.matrix.proofs.Kept.{kept_size}
 use Rattle.drawing.specs.Drawing.{drawn_cells}
-use Rattle.drawn.specs.declared.DrawnMatrix.{DrawnMatrix}
+use Rattle.drawn.specs.Drawn.{DrawnMatrix}
 use Rattle.drawn.specs.Drawn.{drawn_for}
 use Rattle.drawn.specs.Steps.{marked_by}
 use Rattle.drawn.proofs.Steps.{cells_are}
@@ -29,10 +30,10 @@ whole g a b first second cells e f =
     λ i. record { number = 0; region = 0; ring = 0; rows = n.rows_are i; columns = n.columns_are i; cells = f i }
 
 abbrev one : Start → Region
-one s = region_of s.args.first.now s.args.first_ends.now
+one s = drawn_by s.args.first
 
 abbrev two : Start → Region
-two s = region_of s.args.second.now s.args.second_ends.now
+two s = drawn_by s.args.second
 
 few_rows : (c : After-grid_of-g) → c.grid_of-g.result.rows ≤ 3
 few_rows c = (kept_size _ _ _ c.grid_of-g.ensures).rows_few

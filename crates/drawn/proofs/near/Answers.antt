@@ -16,10 +16,10 @@ module _ (a b lo hi : ℕ) where
   unfolding near
   by_its_end h = rw (le-leb (min a b) hi h) refl
 
-pub returns-then-hi-lesser : goal.returns-then-hi-lesser
-returns-then-hi-lesser c = let a = c.args in before_it a.a a.b a.lo a.hi (omega (arith, c.if-hi-lesser.true, c.lesser.ensures))
-
-pub returns : goal.returns
-returns c =
+pub returns-then-min-hi : goal.returns-then-min-hi
+returns-then-min-hi c =
     let a = c.args in
-    ap (leb a.lo) c.greater.ensures ∙ by_its_end a.a a.b a.lo a.hi (omega (arith, c.if-hi-lesser.false, c.lesser.ensures))
+    ap (leb a.lo) c.max.ensures ∙ by_its_end a.a a.b a.lo a.hi (omega (arith, c.if-min-hi.true, c.min.ensures))
+
+pub returns-else-min-hi : goal.returns-else-min-hi
+returns-else-min-hi c = let a = c.args in lt-leb c.min.result a.hi c.if-min-hi.false ∙ before_it a.a a.b a.lo a.hi (omega (arith, c.if-min-hi.false, c.min.ensures))

@@ -1,14 +1,14 @@
 use mathlib.Core.Path.{◌≡◌}
 use mathlib.Core.Bool.{Bool}
 use mathlib.Core.List.{List}
-use Prim.Native.Nat.{ℕ, ◌-◌, ◌/◌, ◌%◌, ◌≤◌}
+use Prim.Native.Nat.{ℕ, ◌/◌, ◌%◌}
 use lib.IntN.{ℤ}
-use lib.ListN.{length}
 use Rattle.plane.specs.declared.Box.{Box}
 use Rattle.plane.specs.Folds.{any_to}
 use Rattle.plane.proofs.TileSet.{any_set}
 use Rattle.ring.specs.Edges.{ring_edge}
-use Rattle.region.specs.Region.{Region, region_of, start_of, size_of}
+use Rattle.region.specs.Region.{Region, start_of, size_of}
+use Rattle.region.specs.Outline.{drawn_by}
 use Rattle.matrix.specs.declared.GridLines.{GridLines}
 use Rattle.matrix.specs.Kept.{cell_in}
 use Rattle.drawing.specs.Stays.{marks}
@@ -23,7 +23,4 @@ abbrev pub rings : (own : Box) → GridLines → Region → ℕ → ℕ → Bool
 rings own g R r c = ring own (cell_in g (c / 3) (c % 3)) R.coordinates (start_of R.ends r) (size_of R.ends r)
 
 abbrev pub invariant-loop-r : goal.invariant-loop-r
-invariant-loop-r l = (l.r ≤ length l.ends) × (l.set ≡ any_set (rings l.own l.g (region_of l.outline l.ends)) l.r 9)
-
-abbrev pub decreases-loop-r : goal.decreases-loop-r
-decreases-loop-r l = length l.ends - l.r
+invariant-loop-r l = l.set ≡ any_set (rings l.own l.g (drawn_by l.outline)) l.r 9

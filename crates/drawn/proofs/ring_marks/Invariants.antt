@@ -1,7 +1,7 @@
 use mathlib.Core.Path.{◌≡◌}
 use mathlib.Core.Bool.{Bool}
 use mathlib.Core.List.{List}
-use Prim.Native.Nat.{ℕ, ◌-◌, ◌/◌, ◌%◌, ◌≤◌}
+use Prim.Native.Nat.{ℕ, ◌/◌, ◌%◌}
 use lib.IntN.{ℤ}
 use Rattle.plane.specs.declared.Box.{Box}
 use Rattle.plane.proofs.TileSet.{any_set}
@@ -17,7 +17,4 @@ abbrev pub edge : (own : Box) → GridLines → List ℤ → (from n : ℕ) → 
 edge own g xs from n i c = marks own (cell_in g (c / 3) (c % 3)) (ring_edge xs from n i)
 
 abbrev pub invariant-loop-k : goal.invariant-loop-k
-invariant-loop-k l = (l.k ≤ l.n) × (l.set ≡ any_set (edge l.own l.g l.xs l.from l.n) l.k 9)
-
-abbrev pub decreases-loop-k : goal.decreases-loop-k
-decreases-loop-k l = l.n - l.k
+invariant-loop-k l = let r = l.ring in l.set ≡ any_set (edge l.own l.g r.outline.now r.from r.size) l.k 9

@@ -33,26 +33,25 @@ all_digits : (v set count : ℕ) → set ≡ any_set (stands_at v) 5 9 → count
 unfolding stands_in count_in
 all_digits v set count e f pieces g = let h = g ∙ ap (max 1) f in λ i. record { list = v; set = e i; pieces = h i }
 
-pub loop-j-init : goal.loop-j-init
-loop-j-init c = let v = c.args.list in (omega arith, sym (div-one v), any_set_none (stands_at v) 9, sum_none (there v), omega arith)
+pub loop-digit-init : goal.loop-digit-init
+loop-digit-init c = let v = c.args.list in (sym (div-one v), any_set_none (stands_at v) 9, sum_none (there v), omega arith)
 
 pub overflow_add-count : goal.overflow_add-count
-overflow_add-count c = let l = c.loop-j in record { fits = omega (arith, l.invariant.4, byte_le (ltb 0 l.rest)) }
+overflow_add-count c = let l = c.loop-digit in record { fits = omega (arith, l.invariant.3, l.auto, byte_le (ltb 0 l.rest)) }
 
-pub loop-j-preserved : goal.loop-j-preserved
-loop-j-preserved c =
+pub loop-digit-preserved : goal.loop-digit-preserved
+loop-digit-preserved c =
     let v = c.args.list in
-    let l = c.loop-j in (
-      omega arith,
-      rest_next v l.j l.rest l.invariant.1,
-      tiles_next v l.j l.rest l.invariant.1 l.set c.tile_set-set.result l.invariant.2 c.tile_set-set.ensures,
-      count_next v l.j l.rest l.invariant.1 l.count l.invariant.3,
-      omega (arith, l.invariant.4, byte_le (ltb 0 l.rest)),
+    let l = c.loop-digit in (
+      rest_next v l._digit l.rest l.invariant.0,
+      tiles_next v l._digit l.rest l.invariant.0 l.set c.tile_set-set.result l.invariant.1 c.tile_set-set.ensures,
+      count_next v l._digit l.rest l.invariant.0 l.count l.invariant.2,
+      omega (arith, l.invariant.3, byte_le (ltb 0 l.rest)),
     )
 
 pub returns : goal.returns
 returns c =
     let v = c.args.list in
-    let l = c.loop-j in
-    let e : l.j ≡ 5 = omega (arith, l.invariant.0, c.loop-j-test.false) in
-    all_digits v l.set l.count (l.invariant.2 ∙ ap (λ (j : ℕ). any_set (stands_at v) j 9) e) (l.invariant.3 ∙ ap (sum_to (there v)) e) c.greater.result c.greater.ensures
+    let l = c.loop-digit in
+    let e : l._digit ≡ 5 = grind (arith, l.auto, c.loop-digit-test) in
+    all_digits v l.set l.count (l.invariant.1 ∙ ap (λ (j : ℕ). any_set (stands_at v) j 9) e) (l.invariant.2 ∙ ap (sum_to (there v)) e) c.max.result (c.max.ensures ∙ grind arith)

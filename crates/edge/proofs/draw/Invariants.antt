@@ -1,7 +1,7 @@
 -- The loop's invariant: of the first j digits, the tiles for which they stand and how many there are; and the digits that are left.
 use mathlib.Core.Path.{◌≡◌}
 use mathlib.Core.Bool.{Bool}
-use Prim.Native.Nat.{ℕ, ◌+◌, ◌-◌, ◌/◌, ◌^◌, ◌≤◌}
+use Prim.Native.Nat.{ℕ, ◌+◌, ◌/◌, ◌^◌, ◌≤◌}
 use lib.Dec.{leb, eqb}
 use Rattle.plane.specs.Folds.{sum_to}
 use Rattle.plane.specs.TileSet.{one_if}
@@ -15,8 +15,5 @@ stands_at v j t = eqb (digit_in v j) (t + 1)
 abbrev pub there : ℕ → ℕ → ℕ
 there v j = one_if (leb (16 ^ j) v)
 
-abbrev pub invariant-loop-j : goal.invariant-loop-j
-invariant-loop-j l = (l.j ≤ 5) × (l.rest ≡ l.list / 16 ^ l.j) × (l.set ≡ any_set (stands_at l.list) l.j 9) × (l.count ≡ sum_to (there l.list) l.j) × (l.count ≤ l.j)
-
-abbrev pub decreases-loop-j : goal.decreases-loop-j
-decreases-loop-j l = 5 - l.j
+abbrev pub invariant-loop-digit : goal.invariant-loop-digit
+invariant-loop-digit l = (l.rest ≡ l.list / 16 ^ l._digit) × (l.set ≡ any_set (stands_at l.list) l._digit 9) × (l.count ≡ sum_to (there l.list) l._digit) × (l.count ≤ l._digit)

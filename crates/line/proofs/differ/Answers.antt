@@ -1,17 +1,13 @@
-use mathlib.Core.Path.{◌∙◌}
-use borrow.Author.Tests.{eq-eqb, ne_eqb}
-use Rattle.line.specs.Differ.{differ}
+use Rattle.std.proofs.Common.{◌≡◌, length, rules}
+use Rattle.pair.specs.Answer.{answer_with}
+use Rattle.drawn.specs.Drawn.{drawn_with}
+use Rattle.line.proofs.Differing.{differ_is}
 use Rattle.line.proofs.differ.Goals as goal
 
-pub returns-then-a-d : goal.returns-then-a-d
-unfolding differ
-returns-then-a-d c = simp (ne_eqb _ _ c.if-a-d.true)
-
-pub returns-then-a-d-2 : goal.returns-then-a-d-2
-unfolding differ
-returns-then-a-d-2 c = simp (eq-eqb _ _ c.if-a-d.false, ne_eqb _ _ c.if-a-d-2.true)
-
 pub returns : goal.returns
-unfolding differ
 returns c =
-    c.cells_differ.ensures ∙ simp (eq-eqb _ _ c.if-a-d.false, eq-eqb _ _ c.if-a-d-2.false)
+    let a = answer_with c.args.a in
+    let d = drawn_with c.args.d in
+    let m : length a.cells ≡ 9 = search rules in
+    let n : length d.cells ≡ 9 = search rules in
+    differ_is a d m n c.ne.result c.ne.ensures

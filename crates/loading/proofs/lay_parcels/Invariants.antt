@@ -1,5 +1,4 @@
 use mathlib.Core.Path.{◌≡◌}
-use Prim.Native.Nat.{◌≤◌, ◌-◌}
 use Rattle.layout.specs.Sheet.{sheet_of}
 use Rattle.layout.specs.Layout.{layout}
 use Rattle.layout.specs.BoxList.{Boxed}
@@ -9,7 +8,4 @@ use Rattle.loading.proofs.lay_parcels.Given as goal
 -- The loop's invariant: the sheet is the layout of the parcels so far, and the list has their boxes.
 
 abbrev pub invariant-loop-k : goal.invariant-loop-k
-invariant-loop-k l = (l.k ≤ l.parcels) × (sheet_of l.xs l.records l.relations ≡ layout (loaded l.card l.k)) × Boxed l.boxes l.xs l.records
-
-abbrev pub decreases-loop-k : goal.decreases-loop-k
-decreases-loop-k l = l.parcels - l.k
+invariant-loop-k l = (sheet_of l.xs l.records l.relations ≡ layout (loaded l.card.bytes.now l.k)) × Boxed l.boxes l.xs l.records

@@ -4,4 +4,4 @@ use Rattle.meet.proofs.overlap.Goals as goal
 
 pub returns : goal.returns
 unfolding overlap
-returns c = rw (c.lesser.ensures, c.greater.ensures, c.lesser-2.ensures, c.greater-2.ensures)
+returns c = rw (c.min.ensures, c.max.ensures, c.min-2.ensures, c.max-2.ensures)

@@ -1,5 +1,5 @@
 use mathlib.Core.Path.{sym, ◌∙◌}
-use Rattle.region.specs.Region.{region_of}
+use Rattle.region.specs.Outline.{drawn_by}
 use Rattle.region.specs.Rules.{Keeps}
 use Rattle.region.proofs.Check.{shape_accepted}
 use Rattle.region.proofs.Rings.{none_outside, none_faulty}
@@ -7,7 +7,7 @@ use Rattle.outline.proofs.check_shape.Goals as goal
 use Rattle.outline.proofs.check_shape.Goals.{Else-some_outside}
 
 -- no number is outside
-four : (c : Else-some_outside) → let a = c.args in Keeps 4 (region_of a.outline.now a.ends.now)
+four : (c : Else-some_outside) → let a = c.args in Keeps 4 (drawn_by a.outline)
 four c = none_outside c.requires (sym c.some_outside.ensures ∙ c.if-some_outside.false)
 
 pub some_faulty-requires : goal.some_faulty-requires

@@ -6,7 +6,7 @@ use lib.ListN.{get_or}
 use borrow.Author.Tests.{lt-ltb, le-ltb}
 use Rattle.region.specs.Region.{start_of}
 use Rattle.region.specs.Check.{short_at}
-use Rattle.region.proofs.Search.{passed_none, passed_more, passed_hit, passed_all}
+use Rattle.region.proofs.Search.{passed_none, passed_more, where_hit, where_all}
 use Rattle.region.proofs.Ends.{start_lt}
 use Rattle.outline.proofs.first_short.Goals as goal
 
@@ -22,7 +22,7 @@ unfolding short_at
 returns-then-end_of-start_of c =
     let ends = c.args.ends.now in
     let e : short_at ends c.loop-r.r ≡ true = lt-ltb (get_or ends c.loop-r.r 0) (start_of ends c.loop-r.r + 3) (omega (arith, c.end_of.ensures, c.start_of.ensures)) in
-    passed_hit _ _ _ c.loop-r.invariant (omega arith) e
+    where_hit _ _ _ c.loop-r.invariant (omega arith) e
 
 pub loop-r-preserved : goal.loop-r-preserved
 unfolding short_at
@@ -32,4 +32,4 @@ loop-r-preserved c =
     passed_more _ _ _ c.loop-r.invariant (omega arith) e
 
 pub returns : goal.returns
-returns c = passed_all _ _ _ c.loop-r.invariant (omega arith)
+returns c = where_all _ _ _ c.loop-r.invariant (omega arith)

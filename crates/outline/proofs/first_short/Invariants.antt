@@ -1,4 +1,3 @@
-use Prim.Native.Nat.{◌-◌}
 use lib.ListN.{length}
 use Rattle.region.specs.Check.{short_at}
 use Rattle.region.proofs.Search.{Passed}
@@ -6,6 +5,3 @@ use Rattle.outline.proofs.first_short.Given as goal
 
 abbrev pub invariant-loop-r : goal.invariant-loop-r
 invariant-loop-r l = Passed (short_at l.ends) (length l.ends) l.r
-
-abbrev pub decreases-loop-r : goal.decreases-loop-r
-decreases-loop-r l = length l.ends - l.r

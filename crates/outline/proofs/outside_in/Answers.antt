@@ -8,7 +8,7 @@ use Rattle.outline.proofs.outside_in.Invariants.{vertexOutside}
 use Rattle.outline.proofs.outside_in.Goals as goal
 
 pub loop-k-init : goal.loop-k-init
-loop-k-init c = (omega arith, below_none _)
+loop-k-init c = below_none _
 
 pub returns-then-vertex_outside : goal.returns-then-vertex_outside
 unfolding outside_in
@@ -17,10 +17,10 @@ returns-then-vertex_outside c =
     sym ((any_means (λ k. vertexOutside a.outline.now (a.from + k)) a.n).1 (c.loop-k.k, omega arith, sym c.vertex_outside.ensures ∙ c.if-vertex_outside.true))
 
 pub loop-k-preserved : goal.loop-k-preserved
-loop-k-preserved c = (omega arith, below_more _ _ c.loop-k.invariant.1 (sym c.vertex_outside.ensures ∙ c.if-vertex_outside.false))
+loop-k-preserved c = below_more _ _ c.loop-k.invariant (sym c.vertex_outside.ensures ∙ c.if-vertex_outside.false)
 
 pub returns : goal.returns
 unfolding outside_in
 returns c =
     let a = c.args in
-    sym (any_none (λ k. vertexOutside a.outline.now (a.from + k)) a.n (λ i l. c.loop-k.invariant.1 i (omega arith)))
+    sym (any_none (λ k. vertexOutside a.outline.now (a.from + k)) a.n (λ i l. c.loop-k.invariant i (omega arith)))

@@ -1,7 +1,7 @@
 use mathlib.Core.Path.{◌≡◌}
 use mathlib.Core.Bool.{Bool, false, not, ◌||◌}
 use mathlib.Core.List.{List}
-use Prim.Native.Nat.{ℕ, ◌+◌, ◌-◌, ◌≤◌, ◌<◌}
+use Prim.Native.Nat.{ℕ, ◌+◌, ◌<◌}
 use lib.IntN.{ℤ}
 use Rattle.plane.specs.Place.{in_range}
 use Rattle.plane.specs.Points.{vertex}
@@ -11,7 +11,4 @@ abbrev pub vertexOutside : List ℤ → ℕ → Bool
 vertexOutside xs i = not (in_range (vertex xs i).x) || not (in_range (vertex xs i).y)
 
 abbrev pub invariant-loop-k : goal.invariant-loop-k
-invariant-loop-k l = (l.k ≤ l.n) × ((i : ℕ) → i < l.k → vertexOutside l.outline (l.from + i) ≡ false)
-
-abbrev pub decreases-loop-k : goal.decreases-loop-k
-decreases-loop-k l = l.n - l.k
+invariant-loop-k l = (i : ℕ) → i < l.k → vertexOutside l.outline (l.from + i) ≡ false

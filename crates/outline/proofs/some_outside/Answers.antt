@@ -1,6 +1,7 @@
 use mathlib.Core.Path.{◌≡◌, refl, ◌∙◌, ap}
-use mathlib.Core.Bool.{Bool, false}
+use mathlib.Core.Bool.{Bool, false, not}
 use Prim.Native.Nat.{ℕ}
+use borrow.Author.Rules.{rules}
 use native.Mathlib.Omega.{arith}
 use lib.ListN.{length}
 use Rattle.plane.specs.Folds.{any_to}
@@ -13,17 +14,18 @@ none : (f : ℕ → Bool) → false ≡ any_to f 0
 unfolding any_to
 none f = refl
 
-pub loop-i-init : goal.loop-i-init
-loop-i-init c = (omega arith, none _)
+pub loop-z-init : goal.loop-z-init
+loop-z-init c = none _
 
-pub loop-i-preserved : goal.loop-i-preserved
-loop-i-preserved c =
-    let l = c.loop-i in
-    (omega (arith, c.loop-i-test.true), rw (l.invariant.1, c.number_outside-outside.ensures) (any_step (out c.args.outline.now) l.i))
+pub loop-z-preserved : goal.loop-z-preserved
+loop-z-preserved c =
+    let l = c.loop-z in
+    let e : not c.in_range.result ≡ out c.args.outline.now l.z-index = search (rules, c.in_range.ensures) in
+    rw (l.invariant, e) (any_step (out c.args.outline.now) l.z-index)
 
 pub returns : goal.returns
 unfolding some_outside
 returns c =
-    let l = c.loop-i in
-    let e : l.i ≡ length c.args.outline.now = omega (arith, l.invariant.0, c.loop-i-test.false) in
-    l.invariant.1 ∙ ap (any_to (out c.args.outline.now)) e
+    let l = c.loop-z in
+    let e : l.z-index ≡ length c.args.outline.now = omega arith in
+    l.invariant ∙ ap (any_to (out c.args.outline.now)) e

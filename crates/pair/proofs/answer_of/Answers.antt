@@ -2,7 +2,8 @@ use mathlib.Core.Path.{◌≡◌, ◌∙◌, ap}
 use Rattle.plane.specs.declared.Box.{Box}
 use Rattle.plane.specs.Placed.{BoxInPlaces, Upright}
 use Rattle.seen.specs.declared.Seen.{Seen}
-use Rattle.region.specs.Region.{Region, region_of}
+use Rattle.region.specs.Region.{Region}
+use Rattle.region.specs.Outline.{drawn_by}
 use Rattle.region.specs.Rules.{Keeps}
 use Rattle.relation.specs.Relation.{region_box, region_seen}
 use Rattle.relation.proofs.Regions.{region_box_in_places, region_upright}
@@ -15,10 +16,10 @@ box_there e kept = rw e (region_box_in_places kept, region_upright _)
 
 -- ---- what the calls answered
 abbrev one : Start → Region
-one s = region_of s.args.first.now s.args.first_ends.now
+one s = drawn_by s.args.first
 
 abbrev two : Start → Region
-two s = region_of s.args.second.now s.args.second_ends.now
+two s = drawn_by s.args.second
 
 module _ (c : After-region_seen-back) where
   abbrev begin : Start

@@ -4,4 +4,4 @@ use Rattle.pair.proofs.given.Goals as goal
 
 pub returns : goal.returns
 unfolding given grid_of
-returns c = simp (c.directions_of-directions.ensures, c.flat_of-cells.ensures, c.matrix_of-m.ensures, c.grid_of-g.ensures)
+returns c = simp (c.directions_of.ensures, c.flat_of.ensures, c.matrix_of-m.ensures, c.grid_of-g.ensures)

@@ -1,7 +1,7 @@
 use mathlib.Core.List.{[], ◌∷◌, ◌++◌}
 use Prim.Native.Nat.{◌%◌}
 use Rattle.names.specs.Numbers.{decimal}
-use Rattle.svg.proofs.Inking.{inked_text, inked_then}
+use Rattle.svg.proofs.Inking.{on_then}
 use Rattle.plot.specs.Drawn.{path_start_text, path_end_text, id_start_text, id_end_text, fill_at, rings_ink, parcel_ink}
 use Rattle.plot.proofs.put_parcel.Goals as goal
 
@@ -9,5 +9,5 @@ pub returns : goal.returns
 unfolding parcel_ink
 returns c =
     let s = c.args.s in
-    inked_then (path_start_text ∷ (rings_ink s s.rings ++ (path_end_text ∷ []))) _ c.put_path-at.ensures
-    (inked_then (fill_at (s.slot % 8) ∷ []) _ (inked_text c.put_fill-at.ensures) (inked_then (id_start_text ∷ decimal s.slot ∷ []) (id_end_text ∷ []) c.put_after-at.ensures (inked_text c.put_text.ensures)))
+    on_then (path_start_text ∷ (rings_ink s s.rings ++ (path_end_text ∷ []))) _ c.put_path.ensures
+    (on_then (fill_at (s.slot % 8) ∷ []) _ c.put_fill.ensures (on_then (id_start_text ∷ []) _ c.text.ensures (on_then (decimal s.slot ∷ []) (id_end_text ∷ []) c.number.ensures c.text-2.ensures)))

@@ -1,11 +1,8 @@
 use mathlib.Core.Path.{◌≡◌}
-use lib.ListN.{length}
-use Prim.Native.Nat.{◌-◌, ◌≤◌}
 use Rattle.plot.specs.Drawn.{MapInk}
 use Rattle.plot.proofs.put_parcels.Given as goal
 
 abbrev pub invariant-loop-k : goal.invariant-loop-k
-invariant-loop-k l = (l.k ≤ l.parcels) × MapInk l.v l.card l.k l.initial.out l.from l.at l.out × (length l.out ≡ length l.initial.out)
-
-abbrev pub decreases-loop-k : goal.decreases-loop-k
-decreases-loop-k l = l.parcels - l.k
+invariant-loop-k l =
+    (l.page.out.ghost_name ≡ l.initial.page.out.ghost_name)
+    × MapInk l.v l.card.bytes.now l.k l.initial.page.out.now l.initial.page.at l.page.at l.page.out.now

@@ -1,11 +1,21 @@
 use mathlib.Core.List.{[], ◌∷◌}
-use Prim.Native.Nat.{◌-◌}
-use Rattle.svg.proofs.Inking.{inked_text, inked_then}
+use mathlib.Core.Path.{◌≡◌, ap}
+use lib.ListN.{length}
+use native.Mathlib.Omega.{arith}
+use Rattle.svg.proofs.Inking.{on_then, on_as}
+use Rattle.plot.proofs.Drawing.{stretch_none, stretch_more}
 use Rattle.plot.specs.Drawn.{move_text, close_text, stretch_ink, ring_ink}
 use Rattle.plot.proofs.put_ring.Goals as goal
+
+pub loop-v-init : goal.loop-v-init
+loop-v-init c = stretch_none c.args.ring.now _
+
+pub loop-v-preserved : goal.loop-v-preserved
+loop-v-preserved c = stretch_more c.args.ring.now c.loop-v.v-index c.loop-v.invariant c.put_vertex.ensures
 
 pub returns : goal.returns
 unfolding ring_ink
 returns c =
-    let a = c.args in
-    inked_then (move_text ∷ []) _ (inked_text c.put_text-at.ensures) (inked_then (stretch_ink a.s.xs a.s.ys a.from (a.to - a.from)) (close_text ∷ []) c.put_stretch-at.ensures (inked_text c.put_text.ensures))
+    let ring = c.args.ring.now in
+    let z : c.loop-v.v-index ≡ length ring = omega arith in
+    on_then (move_text ∷ []) _ c.text.ensures (on_then (stretch_ink ring (length ring)) (close_text ∷ []) (on_as (ap (stretch_ink ring) z) c.loop-v.invariant) c.text-2.ensures)

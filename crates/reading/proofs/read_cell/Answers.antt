@@ -1,26 +1,34 @@
-use mathlib.Core.Path.{◌≡◌, sym, ap, ◌∙◌}
-use borrow.Author.Tests.{eq-eqb, ne_eqb}
-use Rattle.calls.specs.declared.Reading.TheVariants.{Relation}
-use Rattle.calls.specs.Readings.{read_number, read_value, reading_of}
-use Rattle.calls.proofs.Readings.{read_means}
+use mathlib.Core.Path.{◌≡◌, sym, ap, ap₂, ◌∙◌}
+use mathlib.Core.List.{List}
+use Prim.Native.Nat.{ℕ}
+use denote.Bor.{Bor}
+use Rattle.std.specs.Prelude.{Result}
+use Rattle.std.proofs.lemmas.Result.{err_from_is_err_and}
+use Rattle.region.specs.declared.refusals.Refusal.{Refusal}
+use Rattle.region.specs.Refusals.{number_in}
+use Rattle.region.proofs.OrElse.{number_some}
+use Rattle.calls.specs.Readings.{read_number, read_value, reading_in, reading_of, reading_value}
+use Rattle.calls.proofs.Readings.{read_first, number_answered, number_said, value_read}
 use Rattle.reading.proofs.read_cell.Goals as goal
-use Rattle.reading.proofs.read_cell.Goals.{Else-n-ne0}
 
-pub returns-then-n-ne0 : goal.returns-then-n-ne0
-unfolding reading_of read_value
-returns-then-n-ne0 c =
-    let e = c.read_number-n.ensures in
-    let t = ne_eqb _ _ c.if-n-ne0.true in
-    record { value = simp (← e, t); result_value = e; result_value_2 = simp (← e, t) }
+-- what a result that says the answer says in number and value
+said : (records relations : List ℕ) (i j : ℕ) (r : Result ℕ Refusal) → reading_in r ≡ reading_of records relations i j
+    → (reading_in r ≡ reading_of records relations i j) × ((number_in r ≡ read_number records relations i j) × (reading_value (reading_in r) ≡ read_value records relations i j))
+said records relations i j r e = (e, (number_said records relations i j r e, ap reading_value e ∙ value_read records relations i j))
 
-accepted : (c : Else-n-ne0) → let a = c.args in read_number a.records.now a.relations.now a.primary a.reference ≡ 0
-accepted c = sym c.read_number-n.ensures ∙ c.if-n-ne0.false
-
-pub cell_in-requires : goal.cell_in-requires
-cell_in-requires c = let h = (read_means _ _ _ _).0 (accepted (goal.at.cell_in-requires c).Else-n-ne0) in (h.tables.1, h.primary, h.reference)
+pub returns-in_err-tables : goal.returns-in_err-tables
+returns-in_err-tables c =
+    let a = c.args in
+    let p = err_from_is_err_and c.from_residual.result c.from_residual.ensures.1 in
+    let k = c.in_err-tables.field-0.0 in
+    let e = said a.records.now a.relations.now a.primary a.reference c.from_residual.result
+    (rw (p.1, p.2) (sym (number_answered _ _ _ _ _ (number_some k) (sym (read_first a.records.now a.relations.now a.primary a.reference (number_some k) c.in_err-tables.ensures.refusal))))) in
+    record { value = e.0; result_value = e.1.0; result_value_2 = e.1.1 }
 
 pub returns : goal.returns
-unfolding reading_of read_value
 returns c =
-    let t = eq-eqb _ _ (accepted (goal.at.returns c).Else-n-ne0) in
-    record { value = simp t (ap Relation c.cell_in.ensures); result_value = sym (accepted (goal.at.returns c).Else-n-ne0); result_value_2 = simp t c.cell_in.ensures }
+    let a = c.args in
+    let t = c.in_ok-tables.ensures.tables in
+    let e = said a.records.now a.relations.now a.primary a.reference c.cell_of.result
+    (c.cell_of.ensures ∙ ap₂ (λ (x y : Bor (List ℕ)). reading_of x.now y.now a.primary a.reference) t.0 t.1) in
+    record { value = e.0; result_value = e.1.0; result_value_2 = e.1.1 }

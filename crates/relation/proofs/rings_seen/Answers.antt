@@ -1,4 +1,4 @@
-use mathlib.Core.Path.{◌≡◌, refl, ◌∙◌, ap}
+use mathlib.Core.Path.{◌≡◌, ◌∙◌, ap}
 use mathlib.Core.Bool.{true}
 use Prim.Native.Nat.{ℕ, ◌+◌, ◌*◌, ◌≤◌, ◌<◌}
 use native.Mathlib.Omega.{arith}
@@ -8,15 +8,15 @@ use Rattle.plane.specs.declared.Box.{Box}
 use Rattle.plane.proofs.Folds.{sum_step, sum_none}
 use Rattle.plane.proofs.TileSet.{any_set_none, any_set_more}
 use Rattle.seen.specs.declared.Seen.{Seen}
-use Rattle.ring.specs.Stretch.{Stretch}
 use Rattle.ring.specs.RingBox.{stretch_box, covers}
 use Rattle.ring.specs.RingTiles.{ring_pieces}
 use Rattle.seen.specs.RingSeen.{ring_seen}
 use Rattle.ring.proofs.RingBox.{stretch_covers}
-use Rattle.region.specs.Region.{Region, region_of, most_vertices, start_of, size_of, last_end}
+use Rattle.region.specs.Region.{Region, most_vertices, start_of, size_of, last_end}
+use Rattle.region.specs.Outline.{drawn_by}
 use Rattle.region.specs.Rules.{Keeps}
 use Rattle.region.proofs.Ends.{start_le, size_least, ring_in_last}
-use Rattle.region.proofs.Keeps.{keeps_fewer, Sized, sized, in_range_lem, ring_order, ring_stretch}
+use Rattle.region.proofs.Keeps.{keeps_fewer, Sized, sized}
 use Rattle.relation.specs.Relation.{region_box, relation_of, region_has, region_pieces, region_seen}
 use Rattle.relation.proofs.Relation.{pieces_to}
 use Rattle.relation.proofs.rings_seen.Goals as goal
@@ -43,47 +43,34 @@ module _ (b : Box) (R : Region) where
   unfolding relation_of region_has region_pieces
   all_rings k set sum l e f = λ i. record { set = (e ∙ ap (tiles b R) l) i; pieces = (f ∙ ap (count b R) l) i }
 
--- what holds of the ring holds of the numbers that the calls answered
-answered : (P : ℕ → ℕ → Type 0) {from n start size : ℕ} → from ≡ start → n ≡ size → P start size → P from n
-answered P e f p = rw (e, f) p
-
 module _ (s : Start) where
   abbrev region : Region
-  region = region_of s.args.outline.now s.args.ends.now
+  region = drawn_by s.args.outline
 
   sizes : Sized region
   sizes = sized (keeps_fewer (omega arith) s.requires.2)
 
   -- what the pass over a ring asks
-  abbrev Seeable : ℕ → ℕ → Type 0
-  Seeable from n = Stretch region.coordinates from n × (0 < n) × (covers s.args.own (stretch_box region.coordinates from n) ≡ true)
-
-  ring_there : (r : ℕ) → r < length region.ends → Seeable (start_of region.ends r) (size_of region.ends r)
+  ring_there : (r : ℕ) → r < length region.ends
+      → (0 < size_of region.ends r) × (covers s.args.own (stretch_box region.coordinates (start_of region.ends r) (size_of region.ends r)) ≡ true)
   unfolding region_box
   ring_there r h =
       let some : 0 < size_of region.ends r = omega (arith, size_least region.ends sizes.grown r h) in (
-        ring_stretch sizes r h (in_range_lem s.requires.2),
         some,
         rw s.requires.3 (stretch_covers region.coordinates (start_of region.ends r) (size_of region.ends r) (last_end region.ends) some (ring_in_last region.ends sizes.grown r h)),
       )
 
 pub loop-r-init : goal.loop-r-init
-loop-r-init c = (omega arith, any_set_none _ 9, sum_none _)
+loop-r-init c = (any_set_none _ 9, sum_none _)
 
-pub start_of-requires : goal.start_of-requires
-start_of-requires c = omega (arith, c.loop-r-test.true)
-
-pub size_of-requires : goal.size_of-requires
-size_of-requires c =
-    let h = c.loop-r-test.true in
-    (h, ring_order (sizes (goal.at.size_of-requires c).Start) c.loop-r.r h)
+pub ring_of-requires : goal.ring_of-requires
+ring_of-requires c = (c.requires.2, c.loop-r-test.true)
 
 pub ring_seen-p-requires : goal.ring_seen-p-requires
 ring_seen-p-requires c =
-    let s = (goal.at.ring_seen-p-requires c).Start in
-    let there =
-    answered (Seeable s) c.start_of.ensures c.size_of.ensures (ring_there s c.loop-r.r c.loop-r-test.true) in
-    (c.requires.0, c.requires.1, there.0, there.1, there.2)
+    let ring = c.ring_of.ensures in
+    let there = ring_there (goal.at.ring_seen-p-requires c).Start c.loop-r.r c.loop-r-test.true in
+    (c.requires.0, c.requires.1, rw ring.2 there.0, rw (ring.0, ring.1, ring.2) there.1)
 
 -- one ring more
 module _ (c : After-ring_seen-p) where
@@ -92,15 +79,14 @@ module _ (c : After-ring_seen-p) where
 
   ring_is : c.ring_seen-p.result ≡ ring begin.args.b (region begin) c.loop-r.r
   ring_is =
-      c.ring_seen-p.ensures
-      ∙ answered (λ from n. ring_seen begin.args.b (region begin).coordinates from n ≡ ring begin.args.b (region begin) c.loop-r.r)
-      c.start_of.ensures c.size_of.ensures refl
+      let r = c.ring_of.ensures in
+      c.ring_seen-p.ensures ∙ (λ i. ring_seen begin.args.b (r.0 i) (r.1 i) (r.2 i))
 
   tiles_then : bit_or c.loop-r.set c.ring_seen-p.result.set ≡ tiles begin.args.b (region begin) (c.loop-r.r + 1)
-  tiles_then = tiles_next begin.args.b (region begin) c.loop-r.r c.loop-r.set c.ring_seen-p.result c.loop-r.invariant.1 ring_is
+  tiles_then = tiles_next begin.args.b (region begin) c.loop-r.r c.loop-r.set c.ring_seen-p.result c.loop-r.invariant.0 ring_is
 
   count_then : c.loop-r.pieces + c.ring_seen-p.result.pieces ≡ count begin.args.b (region begin) (c.loop-r.r + 1)
-  count_then = count_next begin.args.b (region begin) c.loop-r.r c.loop-r.pieces c.ring_seen-p.result c.loop-r.invariant.2 ring_is
+  count_then = count_next begin.args.b (region begin) c.loop-r.r c.loop-r.pieces c.ring_seen-p.result c.loop-r.invariant.1 ring_is
 
 pub overflow_add-pieces : goal.overflow_add-pieces
 overflow_add-pieces c =
@@ -108,15 +94,10 @@ overflow_add-pieces c =
     let s = begin at in
     record { fits = omega (arith, count_then at, count_small s.args.b (region s) c.requires.2 (c.loop-r.r + 1) (omega (arith, c.loop-r-test.true))) }
 
-pub loop-r-smaller : goal.loop-r-smaller
-loop-r-smaller c = omega (arith, c.loop-r-test.true)
-
 pub loop-r-preserved : goal.loop-r-preserved
-loop-r-preserved c =
-    let s = (goal.at.loop-r-preserved c).After-ring_seen-p in
-    (omega (arith, c.loop-r-test.true), tiles_then s, count_then s)
+loop-r-preserved c = let s = (goal.at.loop-r-preserved c).After-ring_seen-p in (tiles_then s, count_then s)
 
 pub returns : goal.returns
 returns c =
     let l = c.loop-r in
-    all_rings c.args.b (region (goal.at.returns c).Start) l.r l.set l.pieces (omega (arith, l.invariant.0, c.loop-r-test.false)) l.invariant.1 l.invariant.2
+    all_rings c.args.b (region (goal.at.returns c).Start) l.r l.set l.pieces (omega arith) l.invariant.0 l.invariant.1

@@ -38,7 +38,7 @@ pub returns-then-column-row : goal.returns-then-column-row
 unfolding tile_around
 returns-then-column-row c =
     let s = (goal.at.returns-then-column-row c).After-lines_up_to-to_row in
-    (simp (ne_eqb _ _ (λ q. c.if-column-row.true (from_sides s ∙ q ∙ sym (to_sides s)))), omega arith)
+    simp (ne_eqb _ _ (λ q. c.if-column-row.true (from_sides s ∙ q ∙ sym (to_sides s))))
 
 pub overflow_sub-result : goal.overflow_sub-result
 overflow_sub-result c = omega (arith, c.lines_before-row.ensures.1)

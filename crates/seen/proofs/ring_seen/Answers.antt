@@ -18,7 +18,7 @@ use Rattle.seen.specs.RingSeen.{edges_seen, ring_seen}
 use Rattle.ring.proofs.RingBox.{covers_through}
 use Rattle.seen.proofs.Pass.{without_centre, there_already, with_centre}
 use Rattle.seen.proofs.ring_seen.Goals as goal
-use Rattle.seen.proofs.ring_seen.Goals.{After-covers_box-2, After-edges_seen-s, After-ring_encloses}
+use Rattle.seen.proofs.ring_seen.Goals.{After-covers_box-2, After-edges_seen-s, After-encloses}
 
 -- ---- with what the edges show
 module _ (c : After-edges_seen-s) where
@@ -26,13 +26,13 @@ module _ (c : After-edges_seen-s) where
   b = c.args.b
 
   abbrev xs : List ℤ
-  xs = c.args.xs.now
+  xs = c.args.ring.now.outline.now
 
   abbrev from : ℕ
-  from = c.args.from
+  from = c.args.ring.now.from
 
   abbrev n : ℕ
-  n = c.args.n
+  n = c.args.ring.now.size
 
   abbrev Answer : Seen → Type 0
   Answer s = s ≡ ring_seen b xs from n
@@ -60,7 +60,7 @@ returns-then-not-covers_box c =
     let s = (goal.at.returns-then-not-covers_box c).After-edges_seen-s in
     let far : covers c.args.own (b s) ≡ false = sym c.covers_box.ensures ∙ c.if-not-covers_box.true in
     let none : covers (stretch_box (xs s) (from s) (n s)) (b s) ≡ false =
-    is_false _ (λ h. clash _ (covers_through c.args.own (stretch_box (xs s) (from s) (n s)) (b s) c.requires.4 h) far) in
+    is_false _ (λ h. clash _ (covers_through c.args.own (stretch_box (xs s) (from s) (n s)) (b s) c.requires.3 h) far) in
     same_set s (without_centre (b s) (xs s) (from s) (n s) (rw none refl))
 
 -- ---- with whether the ring covers the box
@@ -69,7 +69,7 @@ module _ (c : After-covers_box-2) where
   edges = (goal.at.After-covers_box-2 c).After-edges_seen-s
 
   covering : c.covers_box-2.result ≡ covers (stretch_box (xs edges) (from edges) (n edges)) (b edges)
-  covering = c.covers_box-2.ensures ∙ ap (λ (k : Box). covers k (b edges)) c.stretch_box.ensures
+  covering = c.covers_box-2.ensures ∙ ap (λ (k : Box). covers k (b edges)) c.own_box.ensures
 
 pub returns-then-not-covers_box-2 : goal.returns-then-not-covers_box-2
 returns-then-not-covers_box-2 c =
@@ -78,15 +78,15 @@ returns-then-not-covers_box-2 c =
     same_set e (without_centre (b e) (xs e) (from e) (n e) (rw (sym (covering s) ∙ c.if-not-covers_box-2.true) refl))
 
 -- ---- with whether it encloses the centre
-module _ (c : After-ring_encloses) where
-  covered : let e = edges (goal.at.After-ring_encloses c).After-covers_box-2 in covers (stretch_box (xs e) (from e) (n e)) (b e) ≡ true
-  covered = sym (covering (goal.at.After-ring_encloses c).After-covers_box-2) ∙ c.if-not-covers_box-2.false
+module _ (c : After-encloses) where
+  covered : let e = edges (goal.at.After-encloses c).After-covers_box-2 in covers (stretch_box (xs e) (from e) (n e)) (b e) ≡ true
+  covered = sym (covering (goal.at.After-encloses c).After-covers_box-2) ∙ c.if-not-covers_box-2.false
 
-pub returns-then-not-ring_encloses : goal.returns-then-not-ring_encloses
-returns-then-not-ring_encloses c =
-    let e = edges (goal.at.returns-then-not-ring_encloses c).After-covers_box-2 in
-    same_set e (without_centre (b e) (xs e) (from e) (n e) (rw (covered (goal.at.returns-then-not-ring_encloses c).After-ring_encloses, sym c.ring_encloses.ensures ∙ c.if-not-ring_encloses.true) refl))
+pub returns-then-not-encloses : goal.returns-then-not-encloses
+returns-then-not-encloses c =
+    let e = edges (goal.at.returns-then-not-encloses c).After-covers_box-2 in
+    same_set e (without_centre (b e) (xs e) (from e) (n e) (rw (covered (goal.at.returns-then-not-encloses c).After-encloses, sym c.encloses.ensures ∙ c.if-not-encloses.true) refl))
 
 pub returns : goal.returns
 returns c =
-    with_b (edges (goal.at.returns c).After-covers_box-2) (covered (goal.at.returns c).After-ring_encloses) (sym c.ring_encloses.ensures ∙ c.if-not-ring_encloses.false)
+    with_b (edges (goal.at.returns c).After-covers_box-2) (covered (goal.at.returns c).After-encloses) (sym c.encloses.ensures ∙ c.if-not-encloses.false)

@@ -7,22 +7,22 @@ use Rattle.simple.proofs.four_meets.Goals as goal
 pub shares_with-requires : goal.shares_with-requires
 shares_with-requires c =
     let p = c.requires in
-    (rw c.ring_edge.ensures (edge_in_places p.0 (omega (arith, p.1))), p.0, omega (arith, p.1))
+    (rw c.edge.ensures (edge_in_places c.args.ring.stretch (omega arith)), omega arith)
 
 pub returns-then-shares_with : goal.returns-then-shares_with
 returns-then-shares_with c =
     let a = c.args in
-    four_first a.outline.now a.from a.n c.requires.1
-    (rw c.ring_edge.ensures at (sym c.shares_with.ensures ∙ c.if-shares_with.true))
+    four_first a.ring.outline.now a.ring.from a.ring.size c.requires
+    (rw c.edge.ensures at (sym c.shares_with.ensures ∙ c.if-shares_with.true))
 
 pub shares_with-requires-2 : goal.shares_with-requires-2
 shares_with-requires-2 c =
     let p = c.requires in
-    (rw c.ring_edge-2.ensures (edge_in_places p.0 (omega (arith, p.1))), p.0, omega (arith, p.1))
+    (rw c.edge-2.ensures (edge_in_places c.args.ring.stretch (omega arith)), omega arith)
 
 pub returns : goal.returns
 returns c =
     let a = c.args in
-    (rw c.ring_edge-2.ensures at c.shares_with-2.ensures)
-    ∙ four_second a.outline.now a.from a.n c.requires.1
-    (rw c.ring_edge.ensures at (sym c.shares_with.ensures ∙ c.if-shares_with.false))
+    (rw c.edge-2.ensures at c.shares_with-2.ensures)
+    ∙ four_second a.ring.outline.now a.ring.from a.ring.size c.requires
+    (rw c.edge.ensures at (sym c.shares_with.ensures ∙ c.if-shares_with.false))

@@ -29,13 +29,13 @@ returns-then-s c =
     let a = c.args in
     let p = c.requires in
     let s = c.ring_scan-s in
-    made a.outline.now a.from a.n p.1 s.result s.ensures true
-    (folds_decide a.outline.now a.from a.n p.1 s.result s.ensures c.if-s.true)
+    made a.ring.outline.now a.ring.from a.ring.size p.0 s.result s.ensures true
+    (folds_decide a.ring.outline.now a.ring.from a.ring.size p.0 s.result s.ensures c.if-s.true)
 
 pub returns : goal.returns
 returns c =
     let a = c.args in
     let p = c.requires in
     let s = c.ring_scan-s in
-    made a.outline.now a.from a.n p.1 s.result s.ensures c.ring_meets-tangled.result
-    (search_decides a.outline.now a.from a.n p.1 s.result s.ensures c.ring_meets-tangled.result c.if-s.false c.ring_meets-tangled.ensures)
+    made a.ring.outline.now a.ring.from a.ring.size p.0 s.result s.ensures c.ring_meets-tangled.result
+    (search_decides a.ring.outline.now a.ring.from a.ring.size p.0 s.result s.ensures c.ring_meets-tangled.result c.if-s.false c.ring_meets-tangled.ensures)

@@ -21,26 +21,22 @@ pub loop-k-init : goal.loop-k-init
 unfolding any_to sum_to
 loop-k-init c =
     let a = c.args in (
-      omega arith,
-      c.ring_edge-g.ensures ∙ ap (ring_edge a.outline.now a.from a.n) (sym (before_first a.n)),
+      c.edge-g.ensures ∙ ap (ring_edge a.ring.outline.now a.ring.from a.ring.size) (sym (before_first a.ring.size)),
       refl,
       refl,
       omega arith,
     )
 
-pub edge_after-h-requires : goal.edge_after-h-requires
-edge_after-h-requires c = (c.requires.0, c.loop-k-test.true, c.loop-k.invariant.1)
-
 -- edge k, and the edge before it
 module _ (c : After-edge_after-h) where
   abbrev xs : List ℤ
-  xs = c.args.outline.now
+  xs = c.args.ring.outline.now
 
   abbrev from : ℕ
-  from = c.args.from
+  from = c.args.ring.from
 
   abbrev n : ℕ
-  n = c.args.n
+  n = c.args.ring.size
 
   abbrev k : ℕ
   k = c.loop-k.k
@@ -49,13 +45,13 @@ module _ (c : After-edge_after-h) where
   low = c.loop-k-test.true
 
   first_placed : EdgeInPlaces c.loop-k.g
-  first_placed = rw c.loop-k.invariant.1 (edge_in_places c.requires.0 (before_lt n k low))
+  first_placed = rw c.loop-k.invariant.0 (edge_in_places c.args.ring.stretch (before_lt n k low))
 
   placed : EdgeInPlaces c.edge_after-h.result
-  placed = rw c.edge_after-h.ensures (edge_in_places c.requires.0 low)
+  placed = rw c.edge_after-h.ensures (edge_in_places c.args.ring.stretch low)
 
   joins : (c.edge_after-h.result.ax ≡ c.loop-k.g.bx) × (c.edge_after-h.result.ay ≡ c.loop-k.g.by)
-  joins = goes_on xs from n k c.loop-k.g c.edge_after-h.result low c.loop-k.invariant.1 c.edge_after-h.ensures
+  joins = goes_on xs from n k c.loop-k.g c.edge_after-h.result low c.loop-k.invariant.0 c.edge_after-h.ensures
 
 pub in_line-requires : goal.in_line-requires
 in_line-requires c = (first_placed c, placed c, (joins c).0, (joins c).1)
@@ -73,11 +69,11 @@ shown c =
     let e = c.in_line.ensures in
     elim c.if-in_line.branch [
       | then-in_line w ↦
-          let r = shown_in_line (xs t) (from t) (n t) (k t) l.g c.edge_after-h.result (low t) l.invariant.1 c.edge_after-h.ensures l.repeated l.folded l.invariant.2 l.invariant.3
+          let r = shown_in_line (xs t) (from t) (n t) (k t) l.g c.edge_after-h.result (low t) l.invariant.0 c.edge_after-h.ensures l.repeated l.folded l.invariant.1 l.invariant.2
           w.equal_ends-repeated.result w.turns_back-folded.result (sym e ∙ w.if-in_line.true) w.equal_ends-repeated.ensures w.turns_back-folded.ensures in
           (w.repeated-is ∙ r.0, w.folded-is ∙ r.1)
       | else-in_line w ↦
-          let r = shown_apart (xs t) (from t) (n t) (k t) l.g c.edge_after-h.result (low t) l.invariant.1 c.edge_after-h.ensures l.repeated l.folded l.invariant.2 l.invariant.3
+          let r = shown_apart (xs t) (from t) (n t) (k t) l.g c.edge_after-h.result (low t) l.invariant.0 c.edge_after-h.ensures l.repeated l.folded l.invariant.1 l.invariant.2
           (sym e ∙ w.if-in_line.false) in
           (w.repeated-is ∙ r.0, w.folded-is ∙ r.1)
     ]
@@ -94,12 +90,12 @@ module _ (c : After-turn_of-sum) where
   sum_is =
       let l = c.loop-k in
       let f : SFits w64 c.turn_of-sum.result = record { sfits = c.turn_of-sum.type_inv } in
-      turn_more (xs t) (from t) (n t) (k t) l.g c.edge_after-h.result (low t) l.invariant.1 c.edge_after-h.ensures (to_z w64 l.sum-bits) (to_z w64 (of_z w64 c.turn_of-sum.result))
-      l.invariant.4 (to_z-of_z f ∙ c.turn_of-sum.ensures)
+      turn_more (xs t) (from t) (n t) (k t) l.g c.edge_after-h.result (low t) l.invariant.0 c.edge_after-h.ensures (to_z w64 l.sum-bits) (to_z w64 (of_z w64 c.turn_of-sum.result))
+      l.invariant.3 (to_z-of_z f ∙ c.turn_of-sum.ensures)
 
   sum_fits : SFits w64 sum
   sum_fits =
-      let s = c.requires.0 in
+      let s = c.args.ring.stretch in
       let p = turns_fit (xs t) (from t) (n t) (k t + 1) s.range (omega (arith, low t)) (omega (arith, s.few)) in
       fits sum (plus_to (xs t) (from t) (n t) (k t + 1)) (minus_to (xs t) (from t) (n t) (k t + 1)) sum_is p.0 p.1
 
@@ -110,7 +106,6 @@ pub loop-k-preserved : goal.loop-k-preserved
 loop-k-preserved c =
     let past = (goal.at.loop-k-preserved c).After-edge_after-h in
     let r = shown (goal.at.loop-k-preserved c).Joined-in_line in (
-      omega (arith, low past),
       c.edge_after-h.ensures ∙ ap (ring_edge (xs past) (from past) (n past)) (sym (before_next (n past) (k past))),
       r.0,
       r.1,
@@ -121,5 +116,5 @@ pub returns : goal.returns
 returns c =
     let a = c.args in
     let l = c.loop-k in
-    let e : l.k ≡ a.n = omega (arith, l.invariant.0, c.loop-k-test.false) in
-    all_scanned a.outline.now a.from a.n l.repeated l.folded (to_z w64 l.sum-bits) (rw e at l.invariant.2) (rw e at l.invariant.3) (rw e at l.invariant.4)
+    let e : l.k ≡ a.ring.size = omega (arith, l.auto.k-end, c.loop-k-test.false) in
+    all_scanned a.ring.outline.now a.ring.from a.ring.size l.repeated l.folded (to_z w64 l.sum-bits) (rw e at l.invariant.1) (rw e at l.invariant.2) (rw e at l.invariant.3)

@@ -1,5 +1,4 @@
 use mathlib.Core.Path.{◌≡◌}
-use Prim.Native.Nat.{◌-◌, ◌≤◌}
 use Rattle.plane.specs.Folds.{any_to}
 use Rattle.plane.proofs.Difference.{Diff}
 use Rattle.ring.specs.Edges.{ring_edge}
@@ -10,11 +9,7 @@ use Rattle.simple.proofs.ring_scan.Given as goal
 -- The loop's invariant: the edge before edge k, what the edges before k have shown, and their sum.
 
 abbrev pub invariant-loop-k : goal.invariant-loop-k
-invariant-loop-k l = (l.k ≤ l.n)
-    × (l.g ≡ ring_edge l.outline l.from l.n (edge_before l.n l.k))
-    × (l.repeated ≡ any_to (equal_at l.outline l.from l.n) l.k)
-    × (l.folded ≡ any_to (fold_at l.outline l.from l.n) l.k)
-    × Diff l.sum (plus_to l.outline l.from l.n l.k) (minus_to l.outline l.from l.n l.k)
-
-abbrev pub decreases-loop-k : goal.decreases-loop-k
-decreases-loop-k l = l.n - l.k
+invariant-loop-k l = (l.g ≡ ring_edge l.ring.outline.now l.ring.from l.ring.size (edge_before l.ring.size l.k))
+    × (l.repeated ≡ any_to (equal_at l.ring.outline.now l.ring.from l.ring.size) l.k)
+    × (l.folded ≡ any_to (fold_at l.ring.outline.now l.ring.from l.ring.size) l.k)
+    × Diff l.sum (plus_to l.ring.outline.now l.ring.from l.ring.size l.k) (minus_to l.ring.outline.now l.ring.from l.ring.size l.k)

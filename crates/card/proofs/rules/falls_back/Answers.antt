@@ -17,10 +17,10 @@ pub returns-then-k-eq0 : goal.returns-then-k-eq0
 returns-then-k-eq0 c = front _ _ c.if-k-eq0.true
 
 pub slot_at-requires : goal.slot_at-requires
-slot_at-requires c = entry_there c.args.card.now c.requires.0 c.args.k c.requires.1
+slot_at-requires c = entry_there c.args.card.now.bytes.now c.args.card.now.header c.args.k c.requires
 
 pub slot_at-requires-2 : goal.slot_at-requires-2
-slot_at-requires-2 c = omega (arith, entry_there c.args.card.now c.requires.0 c.args.k c.requires.1)
+slot_at-requires-2 c = omega (arith, entry_there c.args.card.now.bytes.now c.args.card.now.header c.args.k c.requires)
 
 pub returns : goal.returns
 returns c =

@@ -11,10 +11,10 @@ use Rattle.contents.proofs.rules.wrong_vertices.Goals as goal
 pub parcel_count-requires : goal.parcel_count-requires
 parcel_count-requires c = omega (arith, (header_means c.args.card.now c.requires.header).total)
 
-pub u16_at-requires : goal.u16_at-requires
-u16_at-requires c = omega (arith, (header_means c.args.card.now c.requires.header).total)
+pub read-requires : goal.read-requires
+read-requires c = omega (arith, (header_means c.args.card.now c.requires.header).total)
 
 pub returns : goal.returns
 unfolding wrong_vertices first_vertex
 returns c =
-    ap₂ (λ (x y : ℕ). not (eqb x y)) (c.first_vertex.ensures ∙ ap (first_vertex c.args.card.now) c.parcel_count.ensures) c.u16_at.ensures
+    ap₂ (λ (x y : ℕ). not (eqb x y)) (c.first_vertex.ensures ∙ ap (first_vertex c.args.card.now) c.parcel_count.ensures) c.read.ensures

@@ -1,8 +1,8 @@
 use mathlib.Core.Path.{◌≡◌, sym, ap}
 use native.Mathlib.Omega.{arith}
 use lib.ListN.{length}
-use Rattle.card.proofs.Good.{good_means, good_right}
-use Rattle.card.proofs.Bounds.{entry_there}
+use Rattle.pair.specs.Answer.{answer_with}
+use Rattle.drawn.specs.Drawn.{drawn_with}
 use Rattle.line.specs.Line.{pair_line}
 use Rattle.lines.specs.Listing.{line_of}
 use Rattle.names.proofs.Putting.{put_none, put_as}
@@ -13,25 +13,17 @@ use Rattle.lines.proofs.lines.put_pair.Goals.{After-slot_at-2}
 -- the line that is put
 line : (c : After-slot_at-2)
     → let a = c.args in
-    pair_line c.slot_at.result c.slot_at-2.result c.pair_in-a.result c.drawn_in-d.result ≡ line_of a.card.now a.j a.k
+    pair_line c.slot_at.result c.slot_at-2.result (answer_with c.pair_in-a.result) (drawn_with c.drawn_in-d.result) ≡ line_of a.card.now.bytes.now a.j a.k
 line c =
     let a = c.args in
-    rw (c.slot_at.ensures, c.slot_at-2.ensures, c.pair_in-a.ensures, c.drawn_in-d.ensures) (sym (line_some a.card.now a.j a.k c.if-j-k.false))
+    rw (c.slot_at.ensures, c.slot_at-2.ensures, c.pair_in-a.ensures, c.drawn_in-d.ensures) (sym (line_some a.card.now.bytes.now a.j a.k c.if-j-k.false))
 
 pub returns-then-j-k : goal.returns-then-j-k
 returns-then-j-k c = put_as (sym (line_none _ _ _ c.if-j-k.true)) (put_none _ _)
 
-pub slot_at-requires : goal.slot_at-requires
-slot_at-requires c =
-    entry_there c.args.card.now (good_right c.args.card.now ((good_means c.args.card.now).0 c.requires.0)).parcels.header c.args.j c.requires.1
-
-pub slot_at-requires-2 : goal.slot_at-requires-2
-slot_at-requires-2 c =
-    entry_there c.args.card.now (good_right c.args.card.now ((good_means c.args.card.now).0 c.requires.0)).parcels.header c.args.k c.requires.2
-
 pub put_line-requires : goal.put_line-requires
 put_line-requires c =
-    omega (arith, c.requires.3, ap length (line c))
+    omega (arith, c.requires.2, ap length (line c))
 
 pub returns : goal.returns
 returns c =

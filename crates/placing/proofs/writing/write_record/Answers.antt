@@ -1,22 +1,14 @@
-use Prim.Native.Nat.{◌+◌, ◌*◌}
+use Prim.Native.Nat.{ℕ, ◌+◌, ◌-◌, ◌*◌}
 use native.Mathlib.Omega.{arith}
-use Rattle.layout.specs.Sheet.{record_length}
-use Rattle.layout.specs.Layout.{record_number}
-use Rattle.layout.proofs.Stores.{stored_none, stored_more, stored_all}
+use lib.ListN.{length}
+use Rattle.layout.proofs.Middle.{record_written}
 use Rattle.placing.proofs.writing.write_record.Goals as goal
-
-pub loop-k-init : goal.loop-k-init
-loop-k-init c = stored_none _ _ _ _
-
-pub loop-k-preserved : goal.loop-k-preserved
-loop-k-preserved c =
-    let p = c.loop-k in
-    let a = c.args in
-    stored_more (λ j. record_length * a.slot + j) (record_number a.ends.now) record_length a.records.now p.k p.records (omega arith) p.invariant
-    c.record_number.ensures
 
 pub returns : goal.returns
 returns c =
-    let p = c.loop-k in
-    let a = c.args in
-    stored_all (λ j. record_length * a.slot + j) (record_number a.ends.now) record_length a.records.now p.k p.records (omega arith) p.invariant
+    let ends = c.args.ends.now in
+    let at : ℕ = 9 * c.args.slot in
+    let k : ℕ = length ends in
+    record_written at (at + 1) (at + 1 + k) (at + 1 + k - (at + 1)) (at + 9 - (at + 1 + k)) 9 c.args.records.now ends c.copy_from_slice.new.self c.fill.new.self
+    (omega arith) (omega arith) (omega arith) (omega arith) (omega arith) c.copy_from_slice.ensures.after
+    (c.fill.ensures.after (λ y e. e))

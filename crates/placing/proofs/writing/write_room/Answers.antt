@@ -1,26 +1,15 @@
-use mir.Facts.{to_z-of_z}
-use mir.Syntax.{w32}
-use mathlib.Core.Path.{◌∙◌}
-use Prim.Native.Nat.{◌+◌, ◌*◌}
+use Prim.Native.Nat.{ℕ, ◌+◌, ◌-◌, ◌*◌}
 use native.Mathlib.Omega.{arith}
 use lib.IntN.{pos}
-use lib.ListN.{get_or}
-use Rattle.layout.specs.Sheet.{room}
-use Rattle.layout.proofs.Stores.{stored_none, stored_more, stored_all}
+use lib.ListN.{length}
+use Rattle.layout.proofs.Middle.{room_written}
 use Rattle.placing.proofs.writing.write_room.Goals as goal
-
-pub loop-k-init : goal.loop-k-init
-loop-k-init c = stored_none _ _ _ _
-
-pub loop-k-preserved : goal.loop-k-preserved
-loop-k-preserved c =
-    let p = c.loop-k in
-    let a = c.args in
-    stored_more (λ j. room * a.slot + j) (λ j. get_or a.outline.now j (pos 0)) room a.xs.now p.k p.xs (omega arith) p.invariant
-    (to_z-of_z {w = w32} (record { sfits = c.number_or_zero.type_inv }) ∙ c.number_or_zero.ensures)
 
 pub returns : goal.returns
 returns c =
-    let p = c.loop-k in
-    let a = c.args in
-    stored_all (λ j. room * a.slot + j) (λ j. get_or a.outline.now j (pos 0)) room a.xs.now p.k p.xs (omega arith) p.invariant
+    let o = c.args.outline.now in
+    let at : ℕ = 128 * c.args.slot in
+    let k : ℕ = length o in
+    room_written (pos 0) at (at + k) (at + k - at) (at + 128 - (at + k)) 128 c.args.xs.now o c.copy_from_slice.new.self c.fill.new.self
+    (omega arith) (omega arith) (omega arith) (omega arith) c.copy_from_slice.ensures.after
+    (c.fill.ensures.after (λ y e. e))

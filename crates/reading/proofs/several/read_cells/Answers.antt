@@ -1,22 +1,22 @@
-use mathlib.Core.Path.{◌≡◌, sym, ◌∙◌}
-use Rattle.calls.specs.Several.{several_number}
+use mathlib.Core.Path.{sym, ap₂, ◌∙◌}
+use mathlib.Core.List.{List}
+use Prim.Native.Nat.{ℕ}
+use Rattle.plane.specs.Lists.{stores}
+use Rattle.region.proofs.OrElse.{number_some}
+use Rattle.calls.specs.Several.{pair_count, pair_result}
 use Rattle.calls.proofs.Several.{several_room, several_written, several_refused}
 use Rattle.reading.proofs.several.read_cells.Goals as goal
-use Rattle.reading.proofs.several.read_cells.Goals.{Else-n-ne0}
 
-pub returns-then-n-ne0 : goal.returns-then-n-ne0
-returns-then-n-ne0 c =
-    let e = c.several_number-n.ensures in
-    record { value = e; results_after = sym (several_refused _ _ _ _ (λ z. c.if-n-ne0.true (e ∙ z))) }
-
-accepted : (c : Else-n-ne0)
-    → let a = c.args in several_number a.records.now a.relations.now a.pairs.now a.results.now ≡ 0
-accepted c = sym c.several_number-n.ensures ∙ c.if-n-ne0.false
+pub returns-in_err-tables-clause-results_after : goal.returns-in_err-tables-clause-results_after
+returns-in_err-tables-clause-results_after c = sym (several_refused _ _ _ _ (λ z. number_some _ (c.in_err-tables.ensures.refusal ∙ z)))
 
 pub read_pairs-requires : goal.read_pairs-requires
-read_pairs-requires c = several_room _ _ _ _ (accepted (goal.at.read_pairs-requires c).Else-n-ne0)
+read_pairs-requires c = let a = c.args in several_room a.records.now a.relations.now a.pairs.now a.results.now (sym c.in_ok-tables.ensures.refusal)
 
-pub returns : goal.returns
-returns c =
-    let z = accepted (goal.at.returns c).Else-n-ne0 in
-    record { value = sym z; results_after = c.read_pairs.ensures ∙ sym (several_written _ _ _ _ z) }
+pub returns-clause-results_after : goal.returns-clause-results_after
+returns-clause-results_after c =
+    let a = c.args in
+    let t = c.in_ok-tables.ensures.tables in
+    c.read_pairs.ensures
+    ∙ ap₂ (λ (x y : List ℕ). stores (λ k. k) (pair_result x y a.pairs.now) (pair_count a.pairs.now) a.results.now) t.0 t.1
+    ∙ sym (several_written _ _ _ _ (sym c.in_ok-tables.ensures.refusal))

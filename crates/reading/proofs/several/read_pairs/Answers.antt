@@ -10,11 +10,11 @@ pub loop-k-preserved : goal.loop-k-preserved
 loop-k-preserved c =
     let p = c.loop-k in
     let a = c.args in
-    stored_more (λ j. j) (pair_result a.records.now a.relations.now a.pairs.now) (pair_count a.pairs.now) a.results.now p.k p.results (omega arith) p.invariant
+    stored_more (λ j. j) (pair_result a.tables.now.records.now a.tables.now.relations.now a.pairs.now) (pair_count a.pairs.now) a.results.now p.k p.results (omega arith) p.invariant
     c.pair_result.ensures
 
 pub returns : goal.returns
 returns c =
     let p = c.loop-k in
     let a = c.args in
-    stored_all (λ j. j) (pair_result a.records.now a.relations.now a.pairs.now) (pair_count a.pairs.now) a.results.now p.k p.results (omega arith) p.invariant
+    stored_all (λ j. j) (pair_result a.tables.now.records.now a.tables.now.relations.now a.pairs.now) (pair_count a.pairs.now) a.results.now p.k p.results (omega arith) p.invariant

@@ -22,5 +22,5 @@ returns-then-in_range c =
     let z = to_z-of_z c.ranges.c in
     c.place_of.ensures ∙ ap place_of z ∙ in_place c.args.c (sym (ap in_range z) ∙ sym c.in_range.ensures ∙ c.if-in_range.true)
 
-pub returns : goal.returns
-returns c = out_place c.args.c (sym (ap in_range (to_z-of_z c.ranges.c)) ∙ sym c.in_range.ensures ∙ c.if-in_range.false)
+pub returns-else-in_range : goal.returns-else-in_range
+returns-else-in_range c = out_place c.args.c (sym (ap in_range (to_z-of_z c.ranges.c)) ∙ sym c.in_range.ensures ∙ c.if-in_range.false)

@@ -13,9 +13,9 @@ pub returns-then-span-d : goal.returns-then-span-d
 unfolding tenths_of
 returns-then-span-d c = let a = c.args in (rw (ne_eqb a.span 0 (λ e. omega (arith, e)), le-leb a.span a.d (omega arith)) refl, omega arith)
 
-pub returns-then-d-gt2000000 : goal.returns-then-d-gt2000000
+pub returns-then-d-gt-MOST_PLACE : goal.returns-then-d-gt-MOST_PLACE
 unfolding tenths_of
-returns-then-d-gt2000000 c = let a = c.args in (rw (ne_eqb a.span 0 (λ e. omega (arith, e)), lt-leb a.span a.d (omega arith), lt-ltb 2000000 a.d (omega arith)) refl, omega arith)
+returns-then-d-gt-MOST_PLACE c = let a = c.args in (rw (ne_eqb a.span 0 (λ e. omega (arith, e)), lt-leb a.span a.d (omega arith), lt-ltb 2000000 a.d (omega arith)) refl, omega arith)
 
 pub returns-then-t-gt7600 : goal.returns-then-t-gt7600
 unfolding tenths_of

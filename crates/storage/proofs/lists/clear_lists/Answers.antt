@@ -5,5 +5,5 @@ use Rattle.storage.proofs.lists.clear_lists.Goals as goal
 
 pub returns : goal.returns
 returns c =
-    (λ i. sheet_of (c.zero_i32.ensures i) (c.zero_u16.ensures i) (c.zero_u16-2.ensures i))
+    (λ i. sheet_of (c.fill.ensures.after (λ y e. e) i) (c.fill-2.ensures.after (λ y e. e) i) (c.fill-3.ensures.after (λ y e. e) i))
     ∙ blank_zeros (sheet_of c.args.xs.now c.args.records.now c.args.relations.now) c.requires

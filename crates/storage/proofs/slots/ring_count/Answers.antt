@@ -5,7 +5,7 @@ use Rattle.layout.specs.Slots.{rings_in}
 use Rattle.storage.proofs.slots.ring_count.Goals as goal
 
 pub overflow_cast-result : goal.overflow_cast-result
-overflow_cast-result c = omega (arith, c.shared_slice_known-1.given (9 * c.args.slot))
+overflow_cast-result c = omega (arith, (c.type_inv.records (9 * c.args.slot)).fits)
 
 pub returns : goal.returns
 unfolding rings_in

@@ -17,7 +17,7 @@ returns-then-value-lt0 c =
       middle = sign.result;
       signed = sign.new.out;
       sign = sign.ensures;
-      number = rw (c.absolute.ensures ∙ ap nat_abs (to_z-of_z c.ranges.value ∙ g.1)) at number.ensures;
+      number = rw (c.unsigned_abs-digits.ensures.value ∙ ap nat_abs (to_z-of_z c.ranges.value ∙ g.1)) at number.ensures;
     })
 
 pub returns : goal.returns
@@ -27,4 +27,4 @@ returns c =
     subst
     (λ (z : ℤ). WroteInteger c.args.out.now c.args.at z number.result number.new.out)
     (sym g.1)
-    (rw (c.absolute-2.ensures ∙ ap nat_abs (to_z-of_z c.ranges.value ∙ g.1)) at number.ensures)
+    (rw (c.unsigned_abs-digits.ensures.value ∙ ap nat_abs (to_z-of_z c.ranges.value ∙ g.1)) at number.ensures)

@@ -1,7 +1,6 @@
-use native.Mathlib.Nat.{sub-zero}
 use Rattle.words.proofs.write.put_natural.Goals as goal
 
 pub returns : goal.returns
 returns c =
     let d = c.decimal-places in
-    record { places = d.result; fewest = d.ensures.len; wrote = rw (sub-zero, d.ensures.digits) at c.put_text.ensures }
+    record { places = d.result; fewest = d.ensures.len; wrote = rw d.ensures.digits at c.put_text.ensures }

@@ -1,5 +1,4 @@
 use mathlib.Core.Bool.{not}
-use Prim.Native.Nat.{◌-◌}
 use Rattle.plane.specs.TileSet.{one_if}
 use Rattle.region.specs.Region.{most_rings, most_vertices, last_end}
 use Rattle.layout.specs.Sheet.{slots}
@@ -10,7 +9,4 @@ use Rattle.writing.proofs.steps.count_all.Given as goal
 -- The loop's invariant: the three sums over the slots so far.
 
 abbrev pub invariant-loop-i : goal.invariant-loop-i
-invariant-loop-i l = Summing (λ j. one_if (not (empty_in l.records j))) 1 slots l.i l.parcels × Summing (λ j. rings_in l.records j) most_rings slots l.i l.rings × Summing (λ j. last_end (ends_in l.records j)) most_vertices slots l.i l.vertices
-
-abbrev pub decreases-loop-i : goal.decreases-loop-i
-decreases-loop-i l = slots - l.i
+invariant-loop-i l = Summing (λ j. one_if (not (empty_in l.standing.records.now j))) 1 slots l.i l.parcels × Summing (λ j. rings_in l.standing.records.now j) most_rings slots l.i l.rings × Summing (λ j. last_end (ends_in l.standing.records.now j)) most_vertices slots l.i l.vertices

@@ -10,47 +10,44 @@ use Rattle.endian.specs.Placed.{placed, word_bytes}
 use Rattle.endian.proofs.Placed.{length_same}
 use Rattle.endian.proofs.Running.{running_none, running_room, running_more, running_all}
 use Rattle.writing.proofs.steps.put_ends.Goals as goal
-use Rattle.writing.proofs.steps.put_ends.Goals.{After-ends_at-ends}
+use Rattle.writing.proofs.steps.put_ends.Goals.{After-ends-ends}
 
 abbrev bytes : List ℕ → ℕ → List ℕ
 bytes records j = word_bytes (ends_in records j) (length (ends_in records j))
 
 -- what was read of slot i: its bytes, their number, and room for them
-module _ (c : After-ends_at-ends) where
+module _ (c : After-ends-ends) where
   abbrev i : ℕ
   i = c.loop-i.i
 
   abbrev read : List ℕ
-  read = c.ends_at-ends.result.now
+  read = c.ends-ends.result.now
 
-  are : word_bytes read (length read) ≡ bytes c.args.records.now i
-  are = ap (λ (l : List ℕ). word_bytes l (length l)) c.ends_at-ends.ensures
+  are : word_bytes read (length read) ≡ bytes c.args.standing.now.records.now i
+  are = ap (λ (l : List ℕ). word_bytes l (length l)) c.ends-ends.ensures
 
-  size : 2 * length read ≡ length (bytes c.args.records.now i)
+  size : 2 * length read ≡ length (bytes c.args.standing.now.records.now i)
   size = sym (length_same (λ k. u16_bytes (get_or read k 0)) 2 (λ k. refl) (length read)) ∙ ap length are
 
   room : c.loop-i.at + 2 * length read ≤ length c.loop-i.b
   room =
-      omega (arith, size, running_room (bytes c.args.records.now) c.args.from slots c.args.b.now i c.loop-i.b c.loop-i.at (omega arith) c.requires.1 c.loop-i.invariant)
+      omega (arith, size, running_room (bytes c.args.standing.now.records.now) c.args.from slots c.args.b.now i c.loop-i.b c.loop-i.at (omega arith) c.requires c.loop-i.invariant)
 
 pub loop-i-init : goal.loop-i-init
 loop-i-init c = running_none _ _ _ _
 
-pub ends_at-ends-requires : goal.ends_at-ends-requires
-ends_at-ends-requires c = c.requires.0.counted c.loop-i.i (omega arith)
-
-pub put_words-requires : goal.put_words-requires
-put_words-requires c = room (goal.at.put_words-requires c).After-ends_at-ends
+pub put_all-requires : goal.put_all-requires
+put_all-requires c = room (goal.at.put_all-requires c).After-ends-ends
 
 pub overflow_add-at : goal.overflow_add-at
-overflow_add-at c = record { fits = omega (arith, room (goal.at.overflow_add-at c).After-ends_at-ends, c.put_words.auto.b) }
+overflow_add-at c = record { fits = omega (arith, room (goal.at.overflow_add-at c).After-ends-ends, c.put_all.auto.b) }
 
 pub loop-i-preserved : goal.loop-i-preserved
 loop-i-preserved c =
-    running_more (bytes c.args.records.now) c.args.from slots c.args.b.now c.loop-i.i c.loop-i.b c.loop-i.at (omega arith) c.loop-i.invariant
-    (c.put_words.ensures ∙ ap (placed c.loop-i.b c.loop-i.at) (are (goal.at.loop-i-preserved c).After-ends_at-ends)) (ap (λ (n : ℕ). c.loop-i.at + n) (size (goal.at.loop-i-preserved c).After-ends_at-ends))
+    running_more (bytes c.args.standing.now.records.now) c.args.from slots c.args.b.now c.loop-i.i c.loop-i.b c.loop-i.at (omega arith) c.loop-i.invariant
+    (c.put_all.ensures ∙ ap (placed c.loop-i.b c.loop-i.at) (are (goal.at.loop-i-preserved c).After-ends-ends)) (ap (λ (n : ℕ). c.loop-i.at + n) (size (goal.at.loop-i-preserved c).After-ends-ends))
 
 pub returns : goal.returns
 returns c =
-    let r = running_all (bytes c.args.records.now) c.args.from slots c.args.b.now c.loop-i.i c.loop-i.b c.loop-i.at (omega arith) c.loop-i.invariant in
+    let r = running_all (bytes c.args.standing.now.records.now) c.args.from slots c.args.b.now c.loop-i.i c.loop-i.b c.loop-i.at (omega arith) c.loop-i.invariant in
     record { value = r.1; b_after = r.0 }

@@ -1,5 +1,5 @@
 use mathlib.Core.List.{List}
-use Prim.Native.Nat.{ℕ, ◌-◌}
+use Prim.Native.Nat.{ℕ}
 use lib.ListN.{length}
 use Rattle.layout.specs.Sheet.{slots}
 use Rattle.layout.specs.Slots.{ends_in}
@@ -11,7 +11,4 @@ abbrev bytes : List ℕ → ℕ → List ℕ
 bytes records j = word_bytes (ends_in records j) (length (ends_in records j))
 
 abbrev pub invariant-loop-i : goal.invariant-loop-i
-invariant-loop-i l = Running (bytes l.records) l.from slots l.initial.b l.i l.b l.at
-
-abbrev pub decreases-loop-i : goal.decreases-loop-i
-decreases-loop-i l = slots - l.i
+invariant-loop-i l = Running (bytes l.standing.records.now) l.from slots l.initial.b l.i l.b l.at

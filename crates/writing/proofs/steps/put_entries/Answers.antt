@@ -16,13 +16,13 @@ loop-i-init c = running_none _ _ _ _
 
 pub put_entry-at-requires : goal.put_entry-at-requires
 put_entry-at-requires c =
-    (c.requires.0.counted c.loop-i.i (omega arith), running_room (entry c.args.records.now) c.args.from slots c.args.b.now c.loop-i.i c.loop-i.b c.loop-i.at (omega arith) c.requires.1 c.loop-i.invariant)
+    (c.loop-i-test.true, running_room (entry c.args.standing.now.records.now) c.args.from slots c.args.b.now c.loop-i.i c.loop-i.b c.loop-i.at (omega arith) c.requires c.loop-i.invariant)
 
 pub loop-i-preserved : goal.loop-i-preserved
 loop-i-preserved c =
-    running_more (entry c.args.records.now) c.args.from slots c.args.b.now c.loop-i.i c.loop-i.b c.loop-i.at (omega arith) c.loop-i.invariant c.put_entry-at.ensures.b_after c.put_entry-at.ensures.value
+    running_more (entry c.args.standing.now.records.now) c.args.from slots c.args.b.now c.loop-i.i c.loop-i.b c.loop-i.at (omega arith) c.loop-i.invariant c.put_entry-at.ensures.b_after c.put_entry-at.ensures.value
 
 pub returns : goal.returns
 returns c =
-    let r = running_all (entry c.args.records.now) c.args.from slots c.args.b.now c.loop-i.i c.loop-i.b c.loop-i.at (omega arith) c.loop-i.invariant in
+    let r = running_all (entry c.args.standing.now.records.now) c.args.from slots c.args.b.now c.loop-i.i c.loop-i.b c.loop-i.at (omega arith) c.loop-i.invariant in
     record { value = r.1; b_after = r.0 }

@@ -1,5 +1,5 @@
 use mathlib.Core.List.{List}
-use Prim.Native.Nat.{ℕ, ◌-◌}
+use Prim.Native.Nat.{ℕ}
 use lib.IntN.{ℤ}
 use lib.ListN.{length}
 use Rattle.layout.specs.Sheet.{slots}
@@ -12,7 +12,4 @@ abbrev bytes : List ℤ → List ℕ → ℕ → List ℕ
 bytes xs records j = number_bytes (coordinates_in xs records j) (length (coordinates_in xs records j))
 
 abbrev pub invariant-loop-i : goal.invariant-loop-i
-invariant-loop-i l = Running (bytes l.xs l.records) l.from slots l.initial.b l.i l.b l.at
-
-abbrev pub decreases-loop-i : goal.decreases-loop-i
-decreases-loop-i l = slots - l.i
+invariant-loop-i l = Running (bytes l.standing.xs.now l.standing.records.now) l.from slots l.initial.b l.i l.b l.at

@@ -1,0 +1,7 @@
+use mathlib.Core.Path.{refl}
+use Rattle.layout.specs.Slots.{cell_in}
+use Rattle.storage.proofs.table.Tables.cell.Goals as goal
+
+pub returns : goal.returns
+unfolding cell_in
+returns c = refl
