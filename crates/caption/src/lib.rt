@@ -92,7 +92,7 @@ fn put_legend(page: &mut Page, y: u16, primary: u16, reference: u16) {
 pub fn put_answer(page: &mut Page, v: View, primary: u16, reference: u16, a: Answer) {
     let y = bottom(v);
     put_relation(page, v, primary, reference, a);
-    if around(a) {
+    if around(Ok(a)) {
         put_around(page, y + 3040, primary, reference);
     }
     put_matrix(page, y + 980, a);

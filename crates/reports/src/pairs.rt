@@ -36,11 +36,7 @@ fn put_answer(page: &mut Page, answer: Result<Answer, RefusedRegion>) {
     let numbers = pair::report_words(answer);
     page.put_natural(u64::from(numbers[0]));
     page.put_numbers(&numbers[1..]);
-    let is_around = match answer {
-        Ok(a) => around::around(a),
-        Err(_) => false,
-    };
-    page.put_number(u64::from(is_around));
+    page.put_number(u64::from(around::around(answer)));
 }
 
 // Number, region and ring, rows and columns, and the nine cells by row.
