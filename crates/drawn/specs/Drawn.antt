@@ -6,7 +6,8 @@
 --   or_refused c g a           the answer a where the check c accepts region g, and its refusal where not
 --   drawn_for a b first second  the answer's fields for two regions with the boxes a and b
 --   drawn_of first second      the answer for any two regions
-use Rattle.std.specs.Prelude.{Result, Ok, Err, List, ℕ, replicate}
+--   drawn_words a              the 14 numbers of an answer: number, region, ring, rows, columns, nine cells by row
+use Rattle.std.specs.Prelude.{Result, Ok, Err, List, ◌∷◌, ℕ, replicate}
 use Rattle.plane.specs.declared.Box.{Box}
 use Rattle.region.specs.Check.{Checked}
 use Rattle.region.specs.Check.{Accepted, Refused}
@@ -47,3 +48,6 @@ drawn_for a b first second =
 
 unfoldable pub drawn_of : (first second : Region) → DrawnMatrix
 drawn_of first second = or_refused (check_of first) 1 (or_refused (check_of second) 2 (drawn_for (region_box first) (region_box second) first second))
+
+abbrev pub drawn_words : DrawnMatrix → List ℕ
+drawn_words a = a.number ∷ a.region ∷ a.ring ∷ a.rows ∷ a.columns ∷ a.cells

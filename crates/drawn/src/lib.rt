@@ -11,12 +11,13 @@ ghost use Rattle.plane.specs.Choice.{pick};
 ghost use Rattle.plane.specs.TileSet.{one_if, set_of, bit};
 ghost use Rattle.ring.specs.Edges.{ring_edge};
 ghost use Rattle.region.specs.Outline.{drawn_by};
+ghost use Rattle.region.specs.Refusals.{number};
 ghost use Rattle.region.specs.Rules.{Keeps};
 ghost use Rattle.relation.specs.Relation.{region_box};
 ghost use Rattle.matrix.specs.Kept.{grid_of, cell_in};
 ghost use Rattle.drawing.specs.Stays.{gap, stay_up, stay_down, counted, stay_of, overlaps, marks, StayFits};
 ghost use Rattle.drawing.specs.Drawing.{same_box};
-ghost use Rattle.drawn.specs.Drawn.{drawn_with, matrix_in, drawn_for, drawn_of};
+ghost use Rattle.drawn.specs.Drawn.{refused_with, drawn_with, matrix_in, drawn_for, drawn_of, drawn_words};
 ghost use Rattle.drawn.specs.Steps.{row_stay, row_set, near, near_row, near_cell, edges_mark, ring_centre, region_centre, marked_by, is_marked, value_by};
 
 use circuit::{Ring, equal_ends};
@@ -352,4 +353,46 @@ pub fn drawn_of(first: Outline, second: Outline) -> Result<SizedMatrix, RefusedR
 {
     check_both(first, second)?;
     Ok(matrix_drawn(first, second))
+}
+
+// The 14 numbers of an answer, a refusal's first three, then rows and columns, and the nine cells by row; where one is refused, all others are 0.
+pub fn drawn_words(answer: Result<SizedMatrix, RefusedRegion>) -> [u16; 14]
+    ensures { result ≡ drawn_words (matrix_in answer) }
+{
+    match answer {
+        Ok(m) => matrix_words(m),
+        Err(refused) => refused_words(refused),
+    }
+}
+
+fn refused_words(refused: RefusedRegion) -> [u16; 14]
+    ensures { result ≡ drawn_words (refused_with (number refused.broken.rule) refused.region refused.broken.ring) }
+{
+    let mut words = [0u16; 14];
+    words[0] = refused.broken.rule.into();
+    words[1] = refused.region;
+    words[2] = refused.broken.ring;
+    words
+}
+
+fn matrix_words(m: SizedMatrix) -> [u16; 14]
+    ensures { result ≡ drawn_words (drawn_with m) }
+{
+    let cells = m.cells;
+    [
+        0,
+        0,
+        0,
+        m.rows,
+        m.columns,
+        cells[0] as u16,
+        cells[1] as u16,
+        cells[2] as u16,
+        cells[3] as u16,
+        cells[4] as u16,
+        cells[5] as u16,
+        cells[6] as u16,
+        cells[7] as u16,
+        cells[8] as u16,
+    ]
 }

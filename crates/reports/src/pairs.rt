@@ -41,19 +41,7 @@ fn put_answer(page: &mut Page, answer: Result<Answer, RefusedRegion>) {
 
 // Number, region and ring, rows and columns, and the nine cells by row.
 fn put_drawn(page: &mut Page, drawn: Result<SizedMatrix, RefusedRegion>) {
-    match drawn {
-        Ok(m) => put_fields(page, 0, [0, 0, m.rows, m.columns], m.cells),
-        Err(refused) => put_fields(
-            page,
-            refused.broken.rule.into(),
-            [refused.region, refused.broken.ring, 0, 0],
-            [0; 9],
-        ),
-    }
-}
-
-fn put_fields(page: &mut Page, number: u16, fields: [u16; 4], cells: [u8; 9]) {
-    page.put_natural(u64::from(number));
-    page.put_numbers(&fields);
-    page.put_numbers(&cells);
+    let numbers = drawn::drawn_words(drawn);
+    page.put_natural(u64::from(numbers[0]));
+    page.put_numbers(&numbers[1..]);
 }
