@@ -27,10 +27,8 @@ pub fn write_reply(mut line: Rest, lists: Lists, page: &mut Page) -> Option<Repl
         records,
         relations,
     } = lists;
-    let (number, length) = match writing::write(coordinates, records, relations, buffer) {
-        Ok(length) => (0, length),
-        Err(refusal) => (u16::from(refusal), 0),
-    };
+    let written = writing::write(coordinates, records, relations, buffer);
+    let (number, length) = writing::number_and_length(written);
     page.put_natural(u64::from(number));
     page.put_number(length as u64);
     page.put_bytes(buffer);

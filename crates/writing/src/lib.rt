@@ -39,3 +39,13 @@ pub fn write(
     put_card(buffer, &standing, t);
     Ok(length)
 }
+
+// The number and the length of what writing answers: 0 and the card's length, or the number of the refusal and 0.
+pub fn number_and_length(answer: Result<usize, Refusal>) -> (u16, usize)
+    ensures { written_in answer ≡ record { number = result.0; length = result.1 } }
+{
+    match answer {
+        Ok(length) => (0, length),
+        Err(refusal) => (refusal.into(), 0),
+    }
+}
