@@ -6,6 +6,12 @@ use words::Word;
 // A number that a word of a line can say.
 pub trait Number: Copy {
     fn read(line: &[u8], from: usize) -> Option<Word<Self>>;
+
+    // The same, where nothing stands after it.
+    fn read_last(line: &[u8], from: usize) -> Option<Word<Self>> {
+        let word = Self::read(line, from)?;
+        words::is_over(line, word.next).then_some(word)
+    }
 }
 
 impl Number for u8 {
@@ -21,6 +27,10 @@ impl Number for u8 {
 impl Number for u16 {
     fn read(line: &[u8], from: usize) -> Option<Word<u16>> {
         words::read_natural(line, from)
+    }
+
+    fn read_last(line: &[u8], from: usize) -> Option<Word<u16>> {
+        words::read_last_natural(line, from)
     }
 }
 
@@ -66,9 +76,9 @@ impl<'a> Rest<'a> {
 
     // The last number of the line.
     pub fn last<T: Number>(&mut self) -> Option<T> {
-        let number = self.number()?;
-        self.end()?;
-        Some(number)
+        let Word { value, next } = T::read_last(self.line, self.from)?;
+        self.from = next;
+        Some(value)
     }
 
     // As many numbers as the list has.
