@@ -72,9 +72,9 @@ fn ask(mut line: Rest, page: &mut Page, kept: &mut Kept) -> Option<Reply> {
         Request::Remove => parcels::remove_reply(line, kept.lists()),
         Request::Clear => parcels::clear_reply(line, kept.lists()),
         Request::Load => papers::load_reply(line, kept.lists()),
-        Request::Cell => parcels::cell_reply(line, kept.lists()),
-        Request::Cells => parcels::cells_reply(line, kept.lists(), page),
-        Request::Row => parcels::row_reply(line, kept.lists(), page),
-        Request::Write => papers::write_reply(line, kept.lists(), page),
+        Request::Cell => parcels::cell_reply(line, kept.shared_lists()),
+        Request::Cells => parcels::cells_reply(line, kept.shared_lists(), page),
+        Request::Row => parcels::row_reply(line, kept.shared_lists(), page),
+        Request::Write => papers::write_reply(line, kept.shared_lists(), page),
     }
 }

@@ -42,6 +42,14 @@ pub struct Lists<'a> {
     pub relations: &'a mut [u16],
 }
 
+// The lists that a call is lent which only reads them.
+#[derive(Clone, Copy)]
+pub struct SharedLists<'a> {
+    pub coordinates: &'a [i32],
+    pub records: &'a [u16],
+    pub relations: &'a [u16],
+}
+
 impl Kept {
     // An empty sheet.
     pub fn new() -> Kept {
@@ -63,6 +71,15 @@ impl Kept {
             coordinates: front(&mut self.coordinates, lent.coordinates),
             records: front(&mut self.records, lent.records),
             relations: front(&mut self.relations, lent.relations),
+        }
+    }
+
+    pub fn shared_lists(&self) -> SharedLists<'_> {
+        let lent = self.lent;
+        SharedLists {
+            coordinates: &self.coordinates[..lent.coordinates],
+            records: &self.records[..lent.records],
+            relations: &self.relations[..lent.relations],
         }
     }
 }

@@ -4,7 +4,7 @@
 use answers::{BEFORE, Page, Reply};
 use calls::number_of;
 use input::Rest;
-use kept::Lists;
+use kept::{Lists, SharedLists};
 
 pub fn load_reply(mut line: Rest, lists: Lists) -> Option<Reply> {
     let mut bytes = [0u8; 32768];
@@ -18,11 +18,11 @@ pub fn load_reply(mut line: Rest, lists: Lists) -> Option<Reply> {
 }
 
 // Writes the card into a buffer of the length that the line says, and answers the number, the card's length and the whole buffer.
-pub fn write_reply(mut line: Rest, lists: Lists, page: &mut Page) -> Option<Reply> {
+pub fn write_reply(mut line: Rest, lists: SharedLists, page: &mut Page) -> Option<Reply> {
     let size: u16 = line.last()?;
     let mut buffer = [BEFORE; 20000];
     let buffer = buffer.get_mut(..usize::from(size))?;
-    let Lists {
+    let SharedLists {
         coordinates,
         records,
         relations,

@@ -4,7 +4,7 @@
 use answers::{BEFORE_NUMBER, Page, Reply};
 use calls::number_of;
 use input::Rest;
-use kept::Lists;
+use kept::{Lists, SharedLists};
 use reading::several;
 
 pub fn put_reply(mut line: Rest, lists: Lists) -> Option<Reply> {
@@ -41,46 +41,31 @@ pub fn clear_reply(line: Rest, lists: Lists) -> Option<Reply> {
     Some(Reply::Number(number_of(sheet::clear(coordinates, records, relations))))
 }
 
-pub fn cell_reply(mut line: Rest, lists: Lists) -> Option<Reply> {
+pub fn cell_reply(mut line: Rest, lists: SharedLists) -> Option<Reply> {
     let primary = line.number()?;
     let reference = line.last()?;
-    let Lists {
-        coordinates: _,
-        records,
-        relations,
-    } = lists;
-    match reading::read_cell(records, relations, primary, reference) {
+    match reading::read_cell(lists.records, lists.relations, primary, reference) {
         Ok(relation) => Some(Reply::Numbers(0, relation)),
         Err(refusal) => Some(Reply::Numbers(refusal.into(), 0)),
     }
 }
 
 // The list of pairs, and how many results there are.
-pub fn cells_reply(mut line: Rest, lists: Lists, page: &mut Page) -> Option<Reply> {
+pub fn cells_reply(mut line: Rest, lists: SharedLists, page: &mut Page) -> Option<Reply> {
     let mut pairs = [0u16; 1024];
     let pairs = line.list(&mut pairs)?;
     let count: u16 = line.last()?;
     let mut results = [BEFORE_NUMBER; 1024];
     let results = results.get_mut(..usize::from(count))?;
-    let Lists {
-        coordinates: _,
-        records,
-        relations,
-    } = lists;
-    let number = number_of(several::read_cells(records, relations, pairs, results));
+    let number = number_of(several::read_cells(lists.records, lists.relations, pairs, results));
     page.put_natural(u64::from(number));
     page.put_numbers(results);
     Some(Reply::Written)
 }
 
-pub fn row_reply(mut line: Rest, lists: Lists, page: &mut Page) -> Option<Reply> {
+pub fn row_reply(mut line: Rest, lists: SharedLists, page: &mut Page) -> Option<Reply> {
     let slot = line.last()?;
-    let Lists {
-        coordinates: _,
-        records,
-        relations,
-    } = lists;
-    let cells = reading::row(records, relations, slot);
+    let cells = reading::row(lists.records, lists.relations, slot);
     page.put_natural(cells.len() as u64);
     page.put_numbers(cells);
     Some(Reply::Written)
