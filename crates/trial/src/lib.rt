@@ -12,7 +12,7 @@ ghost use Rattle.trial.specs.Given.{box_with};
 
 use calls::number_of;
 use outline::check_region;
-use pair::pair_of;
+use pair::{pair_of, report_words};
 use plane::Box;
 use reading::read_cell;
 use reading::several::read_cells;
@@ -95,10 +95,8 @@ pub fn trial_pair(first: &[i32], first_ends: &[u16], second: &[i32], second_ends
         coordinates: second,
         ends: second_ends,
     };
-    match pair_of(first, second) {
-        Ok(a) => a.first as u32 + 65536 * a.second as u32,
-        Err(_) => 0,
-    }
+    let words = report_words(pair_of(first, second));
+    words[3] as u32 + 65536 * words[4] as u32
 }
 
 // What is written of a reading of one cell, and the number of a list of pairs.
