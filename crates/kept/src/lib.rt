@@ -1,7 +1,7 @@
 // The sheet that the desk keeps, and the request on how much of each of its lists the calls are lent: lend.
 #![tactic(auto)]
 
-ghost use Rattle.std.specs.Prelude.{◌≤◌};
+ghost use Rattle.std.specs.Prelude.{◌≡◌, ◌≤◌, take};
 ghost use Rattle.kept.specs.declared.TheConstants.{COORDINATES_KEPT, RECORDS_KEPT, RELATIONS_KEPT};
 
 use answers::Reply;
@@ -74,7 +74,11 @@ impl Kept {
         }
     }
 
-    pub fn shared_lists(&self) -> SharedLists<'_> {
+    pub fn shared_lists(&self) -> SharedLists<'_>
+        ensures coordinates { result.coordinates.now ≡ take self.now.lent.coordinates self.now.coordinates }
+        ensures records { result.records.now ≡ take self.now.lent.records self.now.records }
+        ensures relations { result.relations.now ≡ take self.now.lent.relations self.now.relations }
+    {
         let lent = self.lent;
         SharedLists {
             coordinates: &self.coordinates[..lent.coordinates],
