@@ -1,5 +1,5 @@
 // The nine tiles of the reference's box across the map: its four lines, the tiles that the primary lies in, and their names.
-ghost use Rattle.std.specs.Prelude.{◌≡◌, ◌<◌, slice_index};
+ghost use Rattle.std.specs.Prelude.{◌≡◌, ◌≤◌, ◌<◌, max, slice_index};
 ghost use Rattle.scale.specs.Places.{x_of, y_of};
 
 use scale::view::{Extent, View, bottom, x_of, y_of};
@@ -48,7 +48,9 @@ struct Frame {
     height: u16,
 }
 
-fn middle(a: u16, b: u16) -> u16 {
+fn middle(a: u16, b: u16) -> u16
+    ensures { result ≤ max a b }
+{
     a + b.saturating_sub(a) / 2
 }
 
