@@ -96,12 +96,15 @@ pub struct Stroke {
     pub b: Vertex,
 }
 
-// A number between a and b: a, and the part k of n of the way to b.
+// A number between a and b: a, and the part k of n of the way to b; the lesser of the two where that lies more than 60,000 above it, as no
+// place in a picture does.
 pub fn between(a: u16, b: u16, k: u64, n: u64) -> u16 {
     if n <= k || 2000000 < k {
         return b;
     }
     let way = u64::from(a.abs_diff(b));
     let part = (k * way / n).min(way) as u16;
-    if a <= b { a + part } else { a - part }
+    let there = if a <= b { a + part } else { a - part };
+    let low = a.min(b);
+    if 60000 < there - low { low } else { there }
 }

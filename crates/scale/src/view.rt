@@ -87,7 +87,7 @@ pub fn least(end: u16) -> usize
 }
 
 // The place of number i.
-fn place_at(numbers: [i32; MOST_NUMBERS], i: usize) -> u64
+pub fn place_at(numbers: [i32; MOST_NUMBERS], i: usize) -> u64
     ensures { result ≡ number_place numbers i }
 {
     if MOST_NUMBERS <= i {
