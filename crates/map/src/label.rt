@@ -10,6 +10,9 @@ struct Stroke {
     b: Vertex,
 }
 
+// No edge is taken to cross a level line here, and no height is above it.
+const NOWHERE: u16 = 65535;
+
 // A stretch of a level line: its middle and how wide it is.
 #[derive(Clone, Copy)]
 struct Stretch {
@@ -18,7 +21,7 @@ struct Stretch {
     width: u16,
 }
 
-// Between what heights a ring lies.
+// Between what heights a ring lies; where it has no vertex, `high` is below `low`.
 #[derive(Clone, Copy)]
 struct LowHigh {
     low: u16,
@@ -27,7 +30,7 @@ struct LowHigh {
 
 fn heights(ring: &[Vertex]) -> LowHigh {
     LowHigh {
-        low: ring.iter().map(|v| v.y).min().unwrap_or(0),
+        low: ring.iter().map(|v| v.y).min().unwrap_or(NOWHERE),
         high: ring.iter().map(|v| v.y).max().unwrap_or(0),
     }
 }
@@ -58,6 +61,7 @@ fn width_from(ring: &[Vertex], y: u16, x: u16) -> Option<u16> {
         .filter(|edge| edge.falls(y))
         .filter_map(|edge| edge.crossing(y).checked_sub(x))
         .min()
+        .filter(|width| *width < NOWHERE - x)
 }
 
 // The widest stretch along a level line; of two that are as wide the first.
@@ -82,7 +86,7 @@ fn widest(ring: &[Vertex], y: u16) -> Stretch {
 
 // The better one of two, where the second has to be wider by some pixels.
 fn better(a: Stretch, b: Stretch) -> Stretch {
-    if a.width.saturating_add(400) < b.width {
+    if a.width <= 60000 && a.width + 400 < b.width {
         b
     } else {
         a
@@ -92,7 +96,7 @@ fn better(a: Stretch, b: Stretch) -> Stretch {
 // Above the ring where it is smaller than its number.
 fn clear_of(l: Stretch, h: LowHigh, slot: u16) -> Stretch {
     let digits_wide: u16 = if slot < 10 { 150 } else { 300 };
-    if digits_wide <= l.width || 400 <= h.high.saturating_sub(h.low) {
+    if h.high < h.low || digits_wide <= l.width || 400 <= h.high - h.low {
         return l;
     }
     Stretch {
@@ -115,6 +119,10 @@ pub fn put_label(page: &mut Page, s: Shape) {
     let slot = s.slot;
     let label = label_of(s.ring(0), slot);
     let x = label.x;
-    let y = label.y.saturating_add(90);
+    let y = if label.y < 60000 {
+        label.y + 90
+    } else {
+        label.y
+    };
     write!(page, "<text x='{x}' y='{y}' >{slot}</text>\n");
 }
