@@ -11,69 +11,79 @@ const HEIGHT: u16 = 2600;
 const DESCRIPTION: &str = "There is no map; the text says why, and what helps.";
 
 // What a refusal says of a card, and what helps.
-fn help_for(refusal: Refusal) -> Option<(&'static str, &'static str)> {
-    let lines = match refusal {
-        Refusal::RingLength => (
-            "A ring has fewer than 3 vertices, or the ring ends do not rise.",
-            "Draw the ring anew.",
-        ),
-        Refusal::ListSize => (
-            "A parcel has more than 64 vertices.",
-            "Draw it as two parcels, in two slots.",
-        ),
-        Refusal::CoordinateRange => (
-            "A coordinate lies outside -1,000,000 to 1,000,000.",
-            "The map's corner, or its unit, is wrong.",
-        ),
-        Refusal::VertexRepeated => (
-            "Two vertices that follow each other are the same.",
-            "Leave one out; the first is not repeated at the end.",
-        ),
-        Refusal::EdgesMeet => (
-            "A ring crosses or touches itself, or turns back on itself.",
-            "Move a vertex; a figure of eight is two rings.",
-        ),
-        Refusal::NotClockwise => (
-            "A ring does not run clockwise.",
-            "Enter its vertices the other way round.",
-        ),
-        Refusal::CardHeader => (
-            "The header counts or places something wrongly, or the length is wrong.",
-            "The card is cut off, or it is no card.",
-        ),
-        Refusal::CardParcels => (
-            "Slots do not rise from 0 to 31, or rings do not add up.",
-            "The card was made wrongly.",
-        ),
-        Refusal::CardVertices => ("The vertices do not add up.", "The card was made wrongly."),
-        _ => return None,
-    };
-    Some(lines)
-}
+const HELP: [(Refusal, &str, &str); 9] = [
+    (
+        Refusal::RingLength,
+        "A ring has fewer than 3 vertices, or the ring ends do not rise.",
+        "Draw the ring anew.",
+    ),
+    (
+        Refusal::ListSize,
+        "A parcel has more than 64 vertices.",
+        "Draw it as two parcels, in two slots.",
+    ),
+    (
+        Refusal::CoordinateRange,
+        "A coordinate lies outside -1,000,000 to 1,000,000.",
+        "The map's corner, or its unit, is wrong.",
+    ),
+    (
+        Refusal::VertexRepeated,
+        "Two vertices that follow each other are the same.",
+        "Leave one out; the first is not repeated at the end.",
+    ),
+    (
+        Refusal::EdgesMeet,
+        "A ring crosses or touches itself, or turns back on itself.",
+        "Move a vertex; a figure of eight is two rings.",
+    ),
+    (
+        Refusal::NotClockwise,
+        "A ring does not run clockwise.",
+        "Enter its vertices the other way round.",
+    ),
+    (
+        Refusal::CardHeader,
+        "The header counts or places something wrongly, or the length is wrong.",
+        "The card is cut off, or it is no card.",
+    ),
+    (
+        Refusal::CardParcels,
+        "Slots do not rise from 0 to 31, or rings do not add up.",
+        "The card was made wrongly.",
+    ),
+    (
+        Refusal::CardVertices,
+        "The vertices do not add up.",
+        "The card was made wrongly.",
+    ),
+];
 
-fn put_help(page: &mut Page, refusal: Refusal) {
-    let Some((says, helps)) = help_for(refusal) else {
-        write!(
-            page,
-            "<text x='400' y='1350' >docs/NUMBERS.md says what the number means.</text>\n"
-        );
-        return;
-    };
+fn put_help(page: &mut Page, number: u16) {
+    for (refusal, says, helps) in HELP {
+        if u16::from(refusal) == number {
+            write!(
+                page,
+                "<text x='400' y='1350' >{says}</text>\n<text x='400' y='1850' >{helps}</text>\n"
+            );
+            return;
+        }
+    }
     write!(
         page,
-        "<text x='400' y='1350' >{says}</text>\n<text x='400' y='1850' >{helps}</text>\n"
+        "<text x='400' y='1350' >docs/NUMBERS.md says what the number means.</text>\n"
     );
 }
 
-// The picture of a card that is refused.
-pub fn put_refusal(page: &mut Page, refusal: Refusal) {
-    let number = u16::from(refusal);
+// The picture of a card that is refused: with a refusal, or with its number. Any number has a picture.
+pub fn put_refusal<N: Into<u16>>(page: &mut Page, refusal: N) {
+    let number: u16 = refusal.into();
     put_head(page, HEIGHT, "A card that is refused", DESCRIPTION);
     write!(
         page,
         "<text x='400' y='750' font-size='360' font-weight='bold'>This card is refused: number {number}</text>\n"
     );
-    put_help(page, refusal);
+    put_help(page, number);
     put_foot(page);
 }
 
