@@ -2,7 +2,7 @@
 // asked in `simple`, its tiles and pieces in `seen`.
 #![tactic(auto)]
 
-ghost use Rattle.std.specs.Prelude.{◌≡◌, ◌+◌, ◌<◌};
+ghost use Rattle.std.specs.Prelude.{◌≡◌, ◌+◌, ◌≤◌, ◌<◌};
 ghost use Rattle.plane.specs.Place.{place_of};
 ghost use Rattle.plane.specs.Points.{vertex};
 ghost use Rattle.plane.specs.Placed.{EdgeInPlaces, BoxInPlaces};
@@ -14,6 +14,33 @@ ghost use Rattle.ring.specs.Enclosed.{crosses_at, encloses};
 
 use meet::{leftward, rightward};
 use plane::{Box, Edge, place_at, place_of};
+
+// The coordinates of vertex i of a list.
+pub fn x_of(xs: &[i32], i: usize) -> i32
+    requires { Readable xs.now i }
+    ensures { result ≡ (vertex xs.now i).x }
+{
+    xs[2 * i]
+}
+
+pub fn y_of(xs: &[i32], i: usize) -> i32
+    requires { Readable xs.now i }
+    ensures { result ≡ (vertex xs.now i).y }
+{
+    xs[2 * i + 1]
+}
+
+// The vertex after vertex k of a ring of n from vertex `from` on: the last joins the first.
+#[tactic(auto, unfolding(ring::specs::Edges::next_of))]
+pub fn next_of(from: usize, n: usize, k: usize) -> usize
+    requires { (k < n) × (from + n ≤ 2048) }
+    ensures { result ≡ next_of from n k }
+{
+    if k + 1 == n {
+        return from;
+    }
+    from + k + 1
+}
 
 // The ring of `size` vertices from vertex `from` on in an outline's coordinates, which a pass may read: they stand there, in range.
 #[derive(Clone, Copy)]
@@ -30,26 +57,22 @@ impl<'a> Ring<'a> {
         requires { k < self.now.size }
         ensures { result ≡ (corner self.now.outline.now self.now.from k).x }
     {
-        self.outline[2 * (self.from + k)]
+        x_of(self.outline, self.from + k)
     }
 
     pub fn y_of(&self, k: usize) -> i32
         requires { k < self.now.size }
         ensures { result ≡ (corner self.now.outline.now self.now.from k).y }
     {
-        self.outline[2 * (self.from + k) + 1]
+        y_of(self.outline, self.from + k)
     }
 
-    // Which vertex of the outline comes after its vertex k: the last joins the first.
-    #[tactic(auto, unfolding(ring::specs::Edges::next_of))]
+    // Which vertex of the outline comes after its vertex k.
     pub fn next_of(&self, k: usize) -> usize
         requires { k < self.now.size }
         ensures { result ≡ next_of self.now.from self.now.size k }
     {
-        if k + 1 == self.size {
-            return self.from;
-        }
-        self.from + k + 1
+        next_of(self.from, self.size, k)
     }
 
     #[tactic(auto, using(ring::proofs::Stretch::corner_readable), unfolding(ring::specs::Edges::ring_edge))]
