@@ -3,7 +3,7 @@
 // words of their own bands. A word may name an edge too many, which costs time; it never leaves one out.
 #![tactic(auto)]
 
-ghost use Rattle.std.specs.Prelude.{◌≡◌, ℕ, ◌+◌, ◌-◌, ◌≤◌, ◌<◌, get_or, replicate};
+ghost use Rattle.std.specs.Prelude.{◌≡◌, ℕ, ◌+◌, ◌-◌, ◌≤◌, ◌<◌, length, get_or, replicate};
 ghost use Rattle.plane.specs.Points.{vertex};
 ghost use Rattle.ring.specs.Edges.{corner};
 ghost use Rattle.ring.specs.Stretch.{Readable};
@@ -62,8 +62,8 @@ fn band_of(ring: Ring, k: usize, axis: Axis, low: u32, shift: u32) -> u8
 }
 
 // The bands of the ring's vertices, the first once more behind the last.
-fn band_ends(ring: Ring, axis: Axis, low: u32, shift: u32, ends: &mut [u8; MOST_ENDS])
-    requires { (0 < ring.size) × (ring.size ≤ most_edges) × (shift < 32) × Fitting ring.outline.now ring.from ring.size (number_of axis) low shift }
+fn band_ends(ring: Ring, axis: Axis, low: u32, shift: u32, ends: &mut [u8])
+    requires { (0 < ring.size) × (ring.size < length ends.old) × (shift < 32) × Fitting ring.outline.now ring.from ring.size (number_of axis) low shift }
     ensures { ends.new ≡ bands_of ring.entry.outline.now ring.entry.from ring.entry.size (number_of axis) low shift ends.old }
 {
     for k in 0..ring.size {
@@ -73,8 +73,8 @@ fn band_ends(ring: Ring, axis: Axis, low: u32, shift: u32, ends: &mut [u8; MOST_
 }
 
 // Each of the ring's n edges marked in the bands of its ends: vertex e + 1 is an end of the edges e and e + 1.
-fn mark(ends: &[u8; MOST_ENDS], n: usize, words: &mut [u64; BANDS])
-    requires { (n ≤ most_edges) × ((v : ℕ) → v ≤ n → get_or ends.now v 0 < bands) }
+fn mark(ends: &[u8], n: usize, words: &mut [u64])
+    requires { (n ≤ most_edges) × (n < length ends.now) × (length words.old ≡ bands) × ((v : ℕ) → v ≤ n → get_or ends.now v 0 < bands) }
     ensures { words.new ≡ marks_of ends.now n words.old }
 {
     words[ends[0] as usize] = 1;
@@ -84,18 +84,20 @@ fn mark(ends: &[u8; MOST_ENDS], n: usize, words: &mut [u64; BANDS])
 }
 
 // Each word joined with those before it.
-fn gather_below(words: &mut [u64; BANDS])
+fn gather_below(words: &mut [u64])
+    requires { length words.old ≡ bands }
     ensures { words.new ≡ below_of words.old }
 {
     let mut joined: u64 = 0;
-    for word in words.iter_mut() {
-        joined |= *word;
-        *word = joined;
+    for b in 0..BANDS {
+        joined |= words[b];
+        words[b] = joined;
     }
 }
 
 // Each word joined with those past it.
-fn gather_above(words: &[u64; BANDS], above: &mut [u64; BANDS])
+fn gather_above(words: &[u64], above: &mut [u64])
+    requires { (length words.now ≡ bands) × (length above.old ≡ bands) }
     ensures { above.new ≡ above_of words.now }
 {
     let mut joined: u64 = 0;
@@ -105,35 +107,72 @@ fn gather_above(words: &[u64; BANDS], above: &mut [u64; BANDS])
     }
 }
 
-// The bands of one axis of a ring that lies between `low` and `high`.
-pub fn lay_bands(ring: Ring, axis: Axis, low: u64, high: u64, bands: &mut Bands)
-    requires { (0 < ring.size) × (ring.size ≤ most_edges) × Within ring.outline.now ring.from ring.size (number_of axis) low high × (high ≤ 2000000) }
-    ensures ends { bands.new.ends ≡ bands_of ring.entry.outline.now ring.entry.from ring.entry.size (number_of axis) low (shift_for (high - low)) bands.old.ends }
-    ensures below { bands.new.below ≡ below_of (marks_of bands.new.ends ring.entry.size bands.old.below) }
-    ensures above { bands.new.above ≡ above_of (marks_of bands.new.ends ring.entry.size bands.old.below) }
+// The bands of one axis of a ring that lies between `low` and `high`, into any three lists with room for them. Part of each caller, so that
+// it is made for the lengths of the caller's lists.
+#[inline(always)]
+pub fn lay_bands(
+    ring: Ring,
+    axis: Axis,
+    low: u64,
+    high: u64,
+    ends: &mut [u8],
+    below: &mut [u64],
+    above: &mut [u64],
+)
+    requires ring { (0 < ring.size) × (ring.size ≤ most_edges) × Within ring.outline.now ring.from ring.size (number_of axis) low high × (high ≤ 2000000) }
+    requires room { (ring.size < length ends.old) × (length below.old ≡ bands) × (length above.old ≡ bands) }
+    ensures ends_after { ends.new ≡ bands_of ring.entry.outline.now ring.entry.from ring.entry.size (number_of axis) low (shift_for (high - low)) ends.old }
+    ensures below_after { below.new ≡ below_of (marks_of ends.new ring.entry.size below.old) }
+    ensures above_after { above.new ≡ above_of (marks_of ends.new ring.entry.size below.old) }
 {
     let shift = shift_for((high - low) as u32);
-    band_ends(ring, axis, low as u32, shift, &mut bands.ends);
-    mark(&bands.ends, ring.size, &mut bands.below);
-    gather_above(&bands.below, &mut bands.above);
-    gather_below(&mut bands.below);
+    band_ends(ring, axis, low as u32, shift, ends);
+    mark(ends, ring.size, below);
+    gather_above(below, above);
+    gather_below(below);
+}
+
+// A word with every edge that overlaps edge i in the axis, by the three lists that `lay_bands` fills.
+pub fn found_near(ends: &[u8], below: &[u64], above: &[u64], i: usize) -> u64
+    requires { (i + 1 < length ends.now) × (length below.now ≡ bands) × (length above.now ≡ bands) × (get_or ends.now i 0 < bands) × (get_or ends.now (i + 1) 0 < bands) }
+    ensures { result ≡ near_of ends.now below.now above.now i }
+{
+    let a = ends[i] as usize;
+    let b = ends[i + 1] as usize;
+    (below[a] | below[b]) & (above[a] | above[b])
 }
 
 impl Bands {
-    // What `lay_bands` fills.
+    // What `lay` fills.
     pub const EMPTY: Self = Bands {
         ends: [0; MOST_ENDS],
         below: [0; BANDS],
         above: [0; BANDS],
     };
 
+    // The bands of one axis of a ring that lies between `low` and `high`.
+    pub fn lay(&mut self, ring: Ring, axis: Axis, low: u64, high: u64)
+        requires { (0 < ring.size) × (ring.size ≤ most_edges) × Within ring.outline.now ring.from ring.size (number_of axis) low high × (high ≤ 2000000) }
+        ensures ends { self.new.ends ≡ bands_of ring.entry.outline.now ring.entry.from ring.entry.size (number_of axis) low (shift_for (high - low)) self.old.ends }
+        ensures below { self.new.below ≡ below_of (marks_of self.new.ends ring.entry.size self.old.below) }
+        ensures above { self.new.above ≡ above_of (marks_of self.new.ends ring.entry.size self.old.below) }
+    {
+        lay_bands(
+            ring,
+            axis,
+            low,
+            high,
+            &mut self.ends,
+            &mut self.below,
+            &mut self.above,
+        );
+    }
+
     // A word with every edge that overlaps edge i in the axis.
     pub fn found_near(&self, i: usize) -> u64
         requires { (i < most_edges) × (get_or self.now.ends i 0 < bands) × (get_or self.now.ends (i + 1) 0 < bands) }
         ensures { result ≡ near_of self.now.ends self.now.below self.now.above i }
     {
-        let a = self.ends[i] as usize;
-        let b = self.ends[i + 1] as usize;
-        (self.below[a] | self.below[b]) & (self.above[a] | self.above[b])
+        found_near(&self.ends, &self.below, &self.above, i)
     }
 }

@@ -14,7 +14,7 @@ ghost use Rattle.simple.specs.Faults.{faults_of};
 ghost use Rattle.simple.specs.Parts.{edge_before, past_strangers, meet_pair, meets_with, meets, scan_of, Candidates};
 ghost use Rattle.simple.specs.Layout.{small, LaidOut, ranges_apart};
 
-use bands::{Axis, Bands, lay_bands, place_in};
+use bands::{Axis, Bands, place_in};
 use circuit::{Ring, equal_ends};
 use meet::{in_line, product, shares, turns_back};
 use plane::{Edge, place_at};
@@ -274,9 +274,9 @@ fn large_meets(ring: Ring) -> bool
 {
     let b = ring.own_box();
     let mut columns = Bands::EMPTY;
-    lay_bands(ring, Axis::X, b.west, b.east, &mut columns);
+    columns.lay(ring, Axis::X, b.west, b.east);
     let mut rows = Bands::EMPTY;
-    lay_bands(ring, Axis::Y, b.south, b.north, &mut rows);
+    rows.lay(ring, Axis::Y, b.south, b.north);
     banded_meets(ring, &columns, &rows)
 }
 

@@ -1,6 +1,6 @@
 use mathlib.Core.Path.{refl}
 use Rattle.bands.specs.Bands.{near_of}
-use Rattle.bands.proofs.Bands.found_near.Goals as goal
+use Rattle.bands.proofs.found_near.Goals as goal
 
 pub returns : goal.returns
 unfolding near_of

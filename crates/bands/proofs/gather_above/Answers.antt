@@ -10,7 +10,7 @@ use Rattle.bands.proofs.gather_above.Invariants.{downward}
 use Rattle.bands.proofs.gather_above.Goals as goal
 
 pub loop-b-init : goal.loop-b-init
-loop-b-init c = (c.told-above, joined_none _, λ a p h. absurd (omega arith))
+loop-b-init c = (c.requires.1, joined_none _, λ a p h. absurd (omega arith))
 
 pub loop-b-preserved : goal.loop-b-preserved
 loop-b-preserved c =

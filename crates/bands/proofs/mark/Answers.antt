@@ -9,7 +9,7 @@ use Rattle.bands.proofs.Marks.{marks_more}
 use Rattle.bands.proofs.mark.Goals as goal
 
 pub loop-e-init : goal.loop-e-init
-loop-e-init c = (length-set c.args.words.now (get_or c.args.ends.now 0 0) 1 ∙ c.told-words, turns_none _ _)
+loop-e-init c = (length-set c.args.words.now (get_or c.args.ends.now 0 0) 1 ∙ c.requires.2, turns_none _ _)
 
 pub loop-e-preserved : goal.loop-e-preserved
 loop-e-preserved c =

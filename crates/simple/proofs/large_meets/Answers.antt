@@ -27,21 +27,21 @@ module _ (c : After-own_box-b) where
       let r = c.args.ring in
       y_within r.outline.now r.from r.size (omega (arith, c.requires.0)) c.own_box-b.result c.own_box-b.ensures
 
-pub lay_bands-requires : goal.lay_bands-requires
-lay_bands-requires c =
-    let p = (goal.at.lay_bands-requires c).After-own_box-b in
+pub lay-requires : goal.lay-requires
+lay-requires c =
+    let p = (goal.at.lay-requires c).After-own_box-b in
     (omega (arith, c.requires.0), c.requires.1, in_x p, (placed p).east)
 
-pub lay_bands-requires-2 : goal.lay_bands-requires-2
-lay_bands-requires-2 c =
-    let p = (goal.at.lay_bands-requires-2 c).After-own_box-b in
+pub lay-requires-2 : goal.lay-requires-2
+lay-requires-2 c =
+    let p = (goal.at.lay-requires-2 c).After-own_box-b in
     (omega (arith, c.requires.0), c.requires.1, in_y p, (placed p).north)
 
 pub banded_meets-requires : goal.banded_meets-requires
 banded_meets-requires c =
     let p = (goal.at.banded_meets-requires c).After-own_box-b in
-    let x = c.lay_bands.ensures in
-    let y = c.lay_bands-2.ensures in
+    let x = c.lay.ensures in
+    let y = c.lay-2.ensures in
     let n = c.args.ring.size in
     let some : 0 < n = omega (arith, c.requires.0) in
     let few = c.requires.1 in
