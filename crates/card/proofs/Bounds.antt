@@ -40,7 +40,7 @@ unfolding numbers_at
 length_numbers b k = length_tab _ (2 * last_end (ends_at b k))
 
 -- the lists that were read, as the part of their places is lent
-front : {A : Type 0} (n : ℕ) (stored l₀ : List A) {l : List A} → l ≡ stored ++ drop n l₀ → length stored ≡ n → take (n - 0) (drop 0 l) ≡ stored
+pub front : {A : Type 0} (n : ℕ) (stored l₀ : List A) {l : List A} → l ≡ stored ++ drop n l₀ → length stored ≡ n → take (n - 0) (drop 0 l) ≡ stored
 front n stored l₀ e h = let z : n - 0 ≡ n = omega arith in ap₂ take z e ∙ take_at stored (drop n l₀) n h
 
 module _ (b : List ℕ) (k : ℕ) where

@@ -1,6 +1,7 @@
 // The input, in chunks, and the lines in it; and what is left of a line: its words, and the outlines and cards that they make.
 #![tactic(auto)]
 
+pub mod names;
 mod request;
 mod rest;
 

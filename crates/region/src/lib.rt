@@ -1,4 +1,4 @@
-// What a region is, rules 1 to 7 (SCOPE 3.1), and the numbers of all refusals. There is no code here.
+// What a region is, rules 1 to 7 (SCOPE 3.1), and the numbers of all refusals. The only code gives a refusal its number.
 #![tactic(auto)]
 
 pub mod refusals;

@@ -1,14 +1,32 @@
-// The two lists that a reading is lent, and the relation table in them, as it stands.
-ghost use Rattle.std.specs.Prelude.{◌≡◌, ◌+◌, ◌*◌, ◌<◌, IfOk};
+// The relation table, as it stands; and the two lists that a reading is lent, the table and the records.
+ghost use Rattle.std.specs.Prelude.{◌≡◌, ◌+◌, ◌*◌, ◌<◌, length, IfOk};
 ghost use Rattle.region.specs.declared.refusals.Refusal.TheVariants.{SheetLists};
 ghost use Rattle.region.specs.Refusals.{number_in, number_if};
-ghost use Rattle.layout.specs.Sheet.{slots, RightTables, wrong_tables};
+ghost use Rattle.layout.specs.Sheet.{slots, relations_length, RightTables, wrong_tables};
 ghost use Rattle.layout.specs.Slots.{empty_in, cell_in, row_in, row_place};
 
 use crate::lists::wrong_tables;
 use crate::slots::is_empty;
 use layout::lists::SLOTS;
 use region::refusals::Refusal;
+
+// The cell of two slots.
+pub fn cell_in(relations: &[u16], primary: usize, reference: usize) -> u16
+    requires { (length relations.now ≡ relations_length) × (primary < slots) × (reference < slots) }
+    ensures { result ≡ cell_in relations.now primary reference }
+{
+    relations[SLOTS * primary + reference]
+}
+
+// The row of a slot: that part of the lent table.
+pub fn row_in<'a>(relations: &'a [u16], slot: usize) -> &'a [u16]
+    requires { (length relations.now ≡ relations_length) × (slot < slots) }
+    ensures result_value { result.now ≡ row_in relations.now slot }
+    ensures ref_ptr_value { result.ref_ptr ≡ (relations.entry.ref_ptr.0, row_place slot * 2 + relations.entry.ref_ptr.1) }
+{
+    let from = SLOTS * slot;
+    &relations[from..from + SLOTS]
+}
 
 #[derive(Clone, Copy)]
 pub struct Tables<'r, 'a> {
@@ -36,21 +54,18 @@ impl<'r, 'a> Tables<'r, 'a> {
         is_empty(self.records, slot)
     }
 
-    // The cell of two slots.
     pub fn cell(&self, primary: usize, reference: usize) -> u16
         requires { (primary < slots) × (reference < slots) }
         ensures { result ≡ cell_in self.now.relations.now primary reference }
     {
-        self.relations[SLOTS * primary + reference]
+        cell_in(self.relations, primary, reference)
     }
 
-    // The row of a slot: that part of the lent table.
     pub fn row(&self, slot: usize) -> &'a [u16]
         requires { slot < slots }
         ensures result_value { result.now ≡ row_in self.now.relations.now slot }
         ensures ref_ptr_value { result.ref_ptr ≡ (self.now.relations.ref_ptr.0, row_place slot * 2 + self.now.relations.ref_ptr.1) }
     {
-        let from = SLOTS * slot;
-        &self.relations[from..from + SLOTS]
+        row_in(self.relations, slot)
     }
 }

@@ -1,7 +1,7 @@
 use mathlib.Core.Path.{refl}
 use native.Mathlib.Nat.{add-sub_cancel_left}
 use Rattle.layout.specs.Slots.{row_in, row_place}
-use Rattle.storage.proofs.table.Tables.row.Goals as goal
+use Rattle.storage.proofs.table.row_in.Goals as goal
 
 pub returns : goal.returns
 unfolding row_in row_place

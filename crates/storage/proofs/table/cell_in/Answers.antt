@@ -1,6 +1,6 @@
 use mathlib.Core.Path.{refl}
 use Rattle.layout.specs.Slots.{cell_in}
-use Rattle.storage.proofs.table.Tables.cell.Goals as goal
+use Rattle.storage.proofs.table.cell_in.Goals as goal
 
 pub returns : goal.returns
 unfolding cell_in
