@@ -1,7 +1,7 @@
 // The parcels of a card: ring ends and coordinates of each, read out of the bytes, and the number that refuses a card by itself.
 #![tactic(auto)]
 
-ghost use Rattle.std.specs.Prelude.{◌≡◌, ◌++◌, ◌*◌, ◌≤◌, ◌<◌, length, take, drop, IfOk};
+ghost use Rattle.std.specs.Prelude.{◌≡◌, ◌++◌, ◌*◌, ◌≤◌, ◌<◌, pos, length, take, drop, replicate, IfOk};
 ghost use Rattle.region.specs.Refusals.{number_in};
 ghost use Rattle.region.specs.Region.{most_rings, most_vertices, last_end};
 ghost use Rattle.card.specs.Layout.{rings_at, vertices_at};
@@ -77,6 +77,7 @@ impl<'a> GoodCard<'a> {
         ensures counts { (result.rings ≡ count_at self.now.bytes.now k) × (result.size ≡ 2 * last_end (ends_at self.now.bytes.now k)) }
         ensures ends { take result.rings result.ends ≡ ends_at self.now.bytes.now k }
         ensures numbers { take result.size result.numbers ≡ numbers_at self.now.bytes.now k }
+        ensures rest { (drop result.rings result.ends ≡ drop result.rings (replicate 8 0)) × (drop result.size result.numbers ≡ drop result.size (replicate 128 (pos 0))) }
     {
         let mut ends = [0u16; MOST_RINGS];
         let rings = read_ends(self.bytes, k, &mut ends);

@@ -24,16 +24,18 @@ fn serve(
     kept: &mut Kept,
 ) {
     for _ in 0..u64::MAX {
-        if input.take_line() {
+        let is_line = input.take_line();
+        if !is_line {
+            page.send(to);
+        }
+        let is_over = !is_line && !input.read_on(from);
+        if is_line || is_over {
             answer(to, input, page, kept);
             input.next_line();
-        } else {
+        }
+        if is_over {
             page.send(to);
-            if !input.read_on(from) {
-                answer(to, input, page, kept);
-                page.send(to);
-                return;
-            }
+            return;
         }
     }
 }
