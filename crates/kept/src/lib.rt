@@ -9,11 +9,11 @@ use input::Rest;
 use layout::lists::{COORDINATES, RECORDS, RELATIONS};
 
 // The desk keeps each list with a place more than the sheet has, so that lists of a wrong length can be lent.
-const COORDINATES_KEPT: usize = COORDINATES + 1;
+pub const COORDINATES_KEPT: usize = COORDINATES + 1;
 
-const RECORDS_KEPT: usize = RECORDS + 1;
+pub const RECORDS_KEPT: usize = RECORDS + 1;
 
-const RELATIONS_KEPT: usize = RELATIONS + 1;
+pub const RELATIONS_KEPT: usize = RELATIONS + 1;
 
 // How much of each list the calls are lent.
 #[derive(Clone, Copy)]
@@ -65,12 +65,29 @@ impl Kept {
         }
     }
 
+    // All that is kept of each list, whatever is lent.
+    pub fn whole_lists(&mut self) -> Lists<'_> {
+        Lists {
+            coordinates: front(&mut self.coordinates, COORDINATES_KEPT),
+            records: front(&mut self.records, RECORDS_KEPT),
+            relations: front(&mut self.relations, RELATIONS_KEPT),
+        }
+    }
+
     pub fn lists(&mut self) -> Lists<'_> {
         let lent = self.lent;
         Lists {
             coordinates: front(&mut self.coordinates, lent.coordinates),
             records: front(&mut self.records, lent.records),
             relations: front(&mut self.relations, lent.relations),
+        }
+    }
+
+pub fn shared_whole_lists(&self) -> SharedLists<'_> {
+        SharedLists {
+            coordinates: &self.coordinates[..COORDINATES_KEPT],
+            records: &self.records[..RECORDS_KEPT],
+            relations: &self.relations[..RELATIONS_KEPT],
         }
     }
 

@@ -3,18 +3,23 @@
 
 use answers::{Page, Reply};
 use input::{Number, Rest};
-use kept::Kept;
+use kept::{Lists, SharedLists};
 use words::COLON;
 
 const EQUALS: u8 = b'=';
 
-pub fn poke_reply(mut line: Rest, kept: &mut Kept) -> Option<Reply> {
+pub fn poke_reply(mut line: Rest, lists: Lists) -> Option<Reply> {
+    let Lists {
+        coordinates,
+        records,
+        relations,
+    } = lists;
     let list: u16 = line.number()?;
     let place: u16 = line.number()?;
     match list {
-        0 => poke(line, &mut kept.coordinates, place),
-        1 => poke(line, &mut kept.records, place),
-        2 => poke(line, &mut kept.relations, place),
+        0 => poke(line, coordinates, place),
+        1 => poke(line, records, place),
+        2 => poke(line, relations, place),
         _ => None,
     }
 }
@@ -25,11 +30,11 @@ fn poke<T: Number>(mut line: Rest, list: &mut [T], place: u16) -> Option<Reply> 
     Some(Reply::Ok)
 }
 
-pub fn sheet_reply(line: Rest, kept: &Kept, page: &mut Page) -> Option<Reply> {
+pub fn sheet_reply(line: Rest, lists: SharedLists, page: &mut Page) -> Option<Reply> {
     line.end()?;
-    put_list(page, 0, &kept.coordinates);
-    put_list(page, 1, &kept.records);
-    put_list(page, 2, &kept.relations);
+    put_list(page, 0, lists.coordinates);
+    put_list(page, 1, lists.records);
+    put_list(page, 2, lists.relations);
     Some(Reply::Written)
 }
 
