@@ -124,10 +124,9 @@ fn corner_at(numbers: [i32; MOST_NUMBERS], i: usize) -> Corner
 }
 
 pub fn extent_of(f: Field) -> Extent {
-    let corners = corners_of(f);
     let mut e = nothing();
-    for c in &corners[..vertices_of(f)] {
-        e = joined(e, extent_at(*c));
+    for i in 0..vertices_of(f) {
+        e = joined(e, extent_at(corner_at(f.numbers, i)));
     }
     e
 }
