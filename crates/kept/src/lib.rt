@@ -83,7 +83,7 @@ impl Kept {
         }
     }
 
-pub fn shared_whole_lists(&self) -> SharedLists<'_> {
+    pub fn shared_whole_lists(&self) -> SharedLists<'_> {
         SharedLists {
             coordinates: &self.coordinates[..COORDINATES_KEPT],
             records: &self.records[..RECORDS_KEPT],
