@@ -1,6 +1,8 @@
 // What is said below the map: tiles and directions in words as the list has them, pieces, the matrix, and "around" where it is.
 #![tactic(auto)]
 
+ghost use Rattle.std.specs.Prelude.{◌≡◌};
+
 use around::around;
 use names::{DIRECTIONS_MIDDLE, TILES_MIDDLE, put_set};
 use pair::Answer;
@@ -13,14 +15,18 @@ const WORDS_ROOM: usize = 28;
 // By the value of a cell: white, the colour of one parcel, of the other, or what both make together.
 const GROUNDS: [&str; 4] = ["ffffff", "f3d08a", "abd9f4", "c9b98a"];
 
-fn put_words_of(page: &mut Page, middle: u8, set: u16) {
+fn put_words_of(page: &mut Page, middle: u8, set: u16)
+    ensures { page.new.out.ghost_name ≡ page.old.out.ghost_name }
+{
     let mut words = [0u8; WORDS_ROOM];
     let end = put_set(&mut words, 0, middle, set);
     page.text(&words[..end]);
 }
 
 // Four lines: the two parcels, tiles, directions and pieces.
-fn put_relation(page: &mut Page, v: View, primary: u16, reference: u16, a: Answer) {
+fn put_relation(page: &mut Page, v: View, primary: u16, reference: u16, a: Answer)
+    ensures { page.new.out.ghost_name ≡ page.old.out.ghost_name }
+{
     let y = bottom(v);
     let heading = y + 1250;
     let tiles = y + 1780;
@@ -44,7 +50,9 @@ fn put_relation(page: &mut Page, v: View, primary: u16, reference: u16, a: Answe
     );
 }
 
-fn put_around(page: &mut Page, y: u16, primary: u16, reference: u16) {
+fn put_around(page: &mut Page, y: u16, primary: u16, reference: u16)
+    ensures { page.new.out.ghost_name ≡ page.old.out.ghost_name }
+{
     write!(
         page,
         "<text x='200' y='{y}' font-weight='bold'>Parcel {primary} lies around parcel {reference}</text>\n"
@@ -52,7 +60,9 @@ fn put_around(page: &mut Page, y: u16, primary: u16, reference: u16) {
 }
 
 // A cell of the matrix with its value in the middle.
-fn put_value(page: &mut Page, x: u16, y: u16, value: u8) {
+fn put_value(page: &mut Page, x: u16, y: u16, value: u8)
+    ensures { page.new.out.ghost_name ≡ page.old.out.ghost_name }
+{
     let ground = GROUNDS.get(usize::from(value)).copied().unwrap_or("");
     let middle = x.saturating_add(280);
     let below = y.saturating_add(385);
@@ -64,7 +74,9 @@ fn put_value(page: &mut Page, x: u16, y: u16, value: u8) {
 }
 
 // The cells of the matrix's own rows and columns.
-fn put_matrix(page: &mut Page, y: u16, a: Answer) {
+fn put_matrix(page: &mut Page, y: u16, a: Answer)
+    ensures { page.new.out.ghost_name ≡ page.old.out.ghost_name }
+{
     write!(page, "<g stroke='#555555' stroke-width='15'>\n");
     for row in 0..a.matrix.rows.min(3) {
         for column in 0..a.matrix.columns.min(3) {
@@ -81,7 +93,9 @@ fn put_matrix(page: &mut Page, y: u16, a: Answer) {
 }
 
 // What the values of the matrix stand for.
-fn put_legend(page: &mut Page, y: u16, primary: u16, reference: u16) {
+fn put_legend(page: &mut Page, y: u16, primary: u16, reference: u16)
+    ensures { page.new.out.ghost_name ≡ page.old.out.ghost_name }
+{
     write!(
         page,
         "<text x='7740' y='{y}' text-anchor='middle' font-size='240'>1: parcel {primary}, 2: parcel {reference}, 3: both</text>\n"
@@ -89,7 +103,9 @@ fn put_legend(page: &mut Page, y: u16, primary: u16, reference: u16) {
 }
 
 // The two slots are no struct: each is a number of its own in the texts, and every function would take the struct apart first.
-pub fn put_answer(page: &mut Page, v: View, primary: u16, reference: u16, a: Answer) {
+pub fn put_answer(page: &mut Page, v: View, primary: u16, reference: u16, a: Answer)
+    ensures { page.new.out.ghost_name ≡ page.old.out.ghost_name }
+{
     let y = bottom(v);
     put_relation(page, v, primary, reference, a);
     if around(Ok(a)) {

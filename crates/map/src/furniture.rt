@@ -1,4 +1,6 @@
 // What stands round the parcels: the frame, the bar that shows a round length, and the arrow to the north.
+ghost use Rattle.std.specs.Prelude.{◌≡◌};
+
 use scale::view::{View, bottom, tenths};
 use svg::Page;
 
@@ -17,7 +19,9 @@ fn bar_length(v: View) -> u64 {
         .unwrap_or(1)
 }
 
-pub fn put_furniture(page: &mut Page, v: View) {
+pub fn put_furniture(page: &mut Page, v: View)
+    ensures { page.new.out.ghost_name ≡ page.old.out.ghost_name }
+{
     let height = v.height;
     let y = bottom(v);
     let length = bar_length(v);

@@ -1,5 +1,7 @@
 // Where the label of a parcel stands: in the middle of the widest stretch of its first ring along one of three level lines, or above a ring
 // that it would hide.
+ghost use Rattle.std.specs.Prelude.{◌≡◌};
+
 use scale::shape::{Shape, Vertex, between};
 use svg::Page;
 
@@ -115,7 +117,9 @@ fn label_of(ring: &[Vertex], slot: u16) -> Stretch {
 }
 
 // The slot in the middle of the place that its label has.
-pub fn put_label(page: &mut Page, s: Shape) {
+pub fn put_label(page: &mut Page, s: Shape)
+    ensures { page.new.out.ghost_name ≡ page.old.out.ghost_name }
+{
     let slot = s.slot;
     let label = label_of(s.ring(0), slot);
     let x = label.x;

@@ -26,7 +26,9 @@ pub fn extent_of_card(card: &GoodCard) -> Extent {
 }
 
 // A loop of its own beside that of `put_parcels`, whose contract says what is written of each parcel.
-pub fn put_labels(page: &mut Page, card: &GoodCard, v: View) {
+pub fn put_labels(page: &mut Page, card: &GoodCard, v: View)
+    ensures { page.new.out.ghost_name ≡ page.old.out.ghost_name }
+{
     for k in 0..card.parcel_count() {
         let f = field_at(card, k);
         put_label(page, shape_of(v, f));
@@ -34,14 +36,18 @@ pub fn put_labels(page: &mut Page, card: &GoodCard, v: View) {
 }
 
 // All parcels, in a group whose start says what they have in common: the look of their outlines, and how far they let the ground through.
-pub fn put_filled(page: &mut Page, card: &GoodCard, v: View, start: &str) {
+pub fn put_filled(page: &mut Page, card: &GoodCard, v: View, start: &str)
+    ensures { page.new.out.ghost_name ≡ page.old.out.ghost_name }
+{
     write!(page, "{start}");
     put_parcels(page, card, v);
     write!(page, "</g>\n");
 }
 
 // How a group of labels starts.
-pub fn start_labels(page: &mut Page) {
+pub fn start_labels(page: &mut Page)
+    ensures { page.new.out.ghost_name ≡ page.old.out.ghost_name }
+{
     write!(
         page,
         "<g text-anchor='middle' font-weight='bold' stroke='#ffffff' stroke-width='60' stroke-linejoin='round' paint-order='stroke'>\n"
@@ -49,14 +55,18 @@ pub fn start_labels(page: &mut Page) {
 }
 
 // All labels, above everything else.
-pub fn put_named(page: &mut Page, card: &GoodCard, v: View) {
+pub fn put_named(page: &mut Page, card: &GoodCard, v: View)
+    ensures { page.new.out.ghost_name ≡ page.old.out.ghost_name }
+{
     start_labels(page);
     put_labels(page, card, v);
     write!(page, "</g>\n");
 }
 
 // The whole picture of a card without a pair.
-pub fn put_map(page: &mut Page, card: &GoodCard) {
+pub fn put_map(page: &mut Page, card: &GoodCard)
+    ensures { page.new.out.ghost_name ≡ page.old.out.ghost_name }
+{
     let v = view_of(extent_of_card(card));
     put_head(
         page,

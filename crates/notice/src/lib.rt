@@ -2,6 +2,8 @@
 // with the slots that were asked for.
 #![tactic(auto)]
 
+ghost use Rattle.std.specs.Prelude.{◌≡◌};
+
 use region::refusals::Refusal;
 use std::fmt;
 use svg::{Page, put_foot, put_head};
@@ -59,7 +61,9 @@ const HELP: [(Refusal, &str, &str); 9] = [
     ),
 ];
 
-fn put_help(page: &mut Page, number: u16) {
+fn put_help(page: &mut Page, number: u16)
+    ensures { page.new.out.ghost_name ≡ page.old.out.ghost_name }
+{
     for (refusal, says, helps) in HELP {
         if u16::from(refusal) == number {
             write!(
@@ -76,7 +80,9 @@ fn put_help(page: &mut Page, number: u16) {
 }
 
 // The picture of a card that is refused: with a refusal, or with its number. Any number has a picture.
-pub fn put_refusal<N: Into<u16>>(page: &mut Page, refusal: N) {
+pub fn put_refusal<N: Into<u16>>(page: &mut Page, refusal: N)
+    ensures { page.new.out.ghost_name ≡ page.old.out.ghost_name }
+{
     let number: u16 = refusal.into();
     put_head(page, HEIGHT, "A card that is refused", DESCRIPTION);
     write!(
@@ -108,7 +114,9 @@ impl fmt::Display for SlotFault {
 }
 
 // The picture for slots that cannot be shown.
-pub fn put_notice(page: &mut Page, fault: SlotFault) {
+pub fn put_notice(page: &mut Page, fault: SlotFault)
+    ensures { page.new.out.ghost_name ≡ page.old.out.ghost_name }
+{
     put_head(page, HEIGHT, "Slots that cannot be shown", DESCRIPTION);
     write!(
         page,

@@ -1,5 +1,7 @@
 // The cut points of the primary's edges: the points strictly between an edge's ends at which it meets a line of the box along which it does
 // not run (SCOPE 4.8). A corner that an edge runs through is one such point.
+ghost use Rattle.std.specs.Prelude.{◌≡◌};
+
 use field::Field;
 use plane::Edge;
 use scale::shape::{between, ring_of};
@@ -32,12 +34,16 @@ fn at_corner(g: Edge, x: u64, y: u64) -> bool {
         )
 }
 
-fn put_cut(page: &mut Page, x: u16, y: u16) {
+fn put_cut(page: &mut Page, x: u16, y: u16)
+    ensures { page.new.out.ghost_name ≡ page.old.out.ghost_name }
+{
     write!(page, "<circle cx='{x}' cy='{y}' r='75'/>\n");
 }
 
 // Where an upright line cuts the edge.
-fn put_upright_cut(page: &mut Page, v: View, g: Edge, x: u64) {
+fn put_upright_cut(page: &mut Page, v: View, g: Edge, x: u64)
+    ensures { page.new.out.ghost_name ≡ page.old.out.ghost_name }
+{
     if within(g.ax, x, g.bx) {
         let y = between(
             y_of(v, g.ay),
@@ -50,7 +56,9 @@ fn put_upright_cut(page: &mut Page, v: View, g: Edge, x: u64) {
 }
 
 // Where a level line cuts it, unless an upright one does there.
-fn put_level_cut(page: &mut Page, v: View, g: Edge, b: Extent, y: u64) {
+fn put_level_cut(page: &mut Page, v: View, g: Edge, b: Extent, y: u64)
+    ensures { page.new.out.ghost_name ≡ page.old.out.ghost_name }
+{
     if !within(g.ay, y, g.by) || at_corner(g, b.west, y) || at_corner(g, b.east, y) {
         return;
     }
@@ -63,7 +71,9 @@ fn put_level_cut(page: &mut Page, v: View, g: Edge, b: Extent, y: u64) {
     put_cut(page, x, y_of(v, y));
 }
 
-fn put_edge_cuts(page: &mut Page, v: View, g: Edge, b: Extent) {
+fn put_edge_cuts(page: &mut Page, v: View, g: Edge, b: Extent)
+    ensures { page.new.out.ghost_name ≡ page.old.out.ghost_name }
+{
     put_upright_cut(page, v, g, b.west);
     put_upright_cut(page, v, g, b.east);
     put_level_cut(page, v, g, b, b.south);
@@ -71,7 +81,9 @@ fn put_edge_cuts(page: &mut Page, v: View, g: Edge, b: Extent) {
 }
 
 // The cuts of a ring's edges, from each vertex to the next.
-fn put_ring_cuts(page: &mut Page, v: View, ring: &[Corner], b: Extent) {
+fn put_ring_cuts(page: &mut Page, v: View, ring: &[Corner], b: Extent)
+    ensures { page.new.out.ghost_name ≡ page.old.out.ghost_name }
+{
     for (from, to) in ring.iter().zip(ring.iter().cycle().skip(1)) {
         let edge = Edge {
             ax: from.x,
@@ -83,7 +95,9 @@ fn put_ring_cuts(page: &mut Page, v: View, ring: &[Corner], b: Extent) {
     }
 }
 
-pub fn put_cuts(page: &mut Page, v: View, p: Field, b: Extent) {
+pub fn put_cuts(page: &mut Page, v: View, p: Field, b: Extent)
+    ensures { page.new.out.ghost_name ≡ page.old.out.ghost_name }
+{
     let corners = corners_of(p);
     write!(
         page,

@@ -55,7 +55,9 @@ fn middle(a: u16, b: u16) -> u16
 }
 
 // Two lines from top to bottom, and two from left to right.
-pub fn put_lines(page: &mut Page, grid: Grid) {
+pub fn put_lines(page: &mut Page, grid: Grid)
+    ensures { page.new.out.ghost_name ≡ page.old.out.ghost_name }
+{
     let [top, north, south, bottom] = grid.rows;
     let [_, west, east, _] = grid.columns;
     let height = bottom.saturating_sub(top);
@@ -71,7 +73,9 @@ pub fn put_lines(page: &mut Page, grid: Grid) {
 }
 
 // The tiles of the set, whose bits are the tiles row by row.
-pub fn put_tints(page: &mut Page, grid: Grid, set: u16) {
+pub fn put_tints(page: &mut Page, grid: Grid, set: u16)
+    ensures { page.new.out.ghost_name ≡ page.old.out.ghost_name }
+{
     write!(page, "<g fill='#e69f00' fill-opacity='0.2'>\n");
     for row in 0..3 {
         for column in 0..3 {
@@ -93,7 +97,9 @@ pub fn put_tints(page: &mut Page, grid: Grid, set: u16) {
 }
 
 // The names stand where the map has no parcel: along the frame.
-pub fn put_names(page: &mut Page, grid: Grid) {
+pub fn put_names(page: &mut Page, grid: Grid)
+    ensures { page.new.out.ghost_name ≡ page.old.out.ghost_name }
+{
     let [_, west, east, _] = grid.columns;
     let [_, north, south, bottom] = grid.rows;
     let x = middle(west, east);
@@ -111,11 +117,13 @@ pub fn put_names(page: &mut Page, grid: Grid) {
         <text x='9080' y='{y}' >E</text>\n\
         <text x='{x}' y='{low}' >S</text>\n"
     );
-    put_box_name(page, grid.tile(1, 1));
+    put_box_name(page, grid.tile(1, 1), east);
 }
 
 // The name of the box itself, in its upper left corner, or beside its upper right corner where the box is small; with it the names end.
-fn put_box_name(page: &mut Page, the_box: Frame) {
+fn put_box_name(page: &mut Page, the_box: Frame, east: u16)
+    ensures { page.new.out.ghost_name ≡ page.old.out.ghost_name }
+{
     let Frame {
         x,
         y,
@@ -123,7 +131,7 @@ fn put_box_name(page: &mut Page, the_box: Frame) {
         height,
     } = the_box;
     if width < 900 || height < 900 {
-        return put_name_beside(page, x.saturating_add(width), y);
+        return put_name_beside(page, east, y);
     }
     let right = x.saturating_add(120);
     let below = y.saturating_add(330);
@@ -133,7 +141,9 @@ fn put_box_name(page: &mut Page, the_box: Frame) {
     );
 }
 
-fn put_name_beside(page: &mut Page, x: u16, y: u16) {
+fn put_name_beside(page: &mut Page, x: u16, y: u16)
+    ensures { page.new.out.ghost_name ≡ page.old.out.ghost_name }
+{
     let right = x.saturating_add(210);
     let above = y.saturating_sub(90);
     write!(

@@ -1,4 +1,6 @@
 // Which picture it is.
+ghost use Rattle.std.specs.Prelude.{◌≡◌};
+
 use contents::GoodCard;
 use field::entry_of;
 use map::put_map;
@@ -40,7 +42,9 @@ fn slots_asked(rt: &impl Env) -> Result<(u16, u16), SlotFault> {
     Ok((primary, reference))
 }
 
-fn draw_two(card: &GoodCard, page: &mut Page, rt: &impl Env) -> Result<(), SlotFault> {
+fn draw_two(card: &GoodCard, page: &mut Page, rt: &impl Env) -> Result<(), SlotFault>
+    ensures { page.new.out.ghost_name ≡ page.old.out.ghost_name }
+{
     let (primary, reference) = slots_asked(rt)?;
     let j = entry_of(card, primary).ok_or(SlotFault::Empty)?;
     let k = entry_of(card, reference).ok_or(SlotFault::Empty)?;
@@ -49,7 +53,9 @@ fn draw_two(card: &GoodCard, page: &mut Page, rt: &impl Env) -> Result<(), SlotF
 }
 
 // A card that is refused is told before anything is said of the slots.
-pub fn draw(rt: &impl Env, card: &[u8], page: &mut Page) {
+pub fn draw(rt: &impl Env, card: &[u8], page: &mut Page)
+    ensures { page.new.out.ghost_name ≡ page.old.out.ghost_name }
+{
     match GoodCard::read(card) {
         Err(refusal) => put_refusal(page, refusal),
         Ok(good) if !has_argument(rt, 1) => put_map(page, &good),

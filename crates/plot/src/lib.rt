@@ -61,7 +61,9 @@ fn put_path(page: &mut Page, s: Shape)
 }
 
 // A parcel with a look of its own, with which the element ends.
-pub fn put_outline(page: &mut Page, s: Shape, look: &[u8]) {
+pub fn put_outline(page: &mut Page, s: Shape, look: &[u8])
+    ensures { page.new.out.ghost_name ≡ page.old.out.ghost_name }
+{
     put_path(page, s);
     page.text(look);
 }

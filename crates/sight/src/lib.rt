@@ -19,7 +19,9 @@ use scale::shape::{Shape, shape_of};
 use scale::view::{View, bottom, extent_of, view_of};
 use svg::{Page, put_foot, put_head};
 
-fn put_opening(page: &mut Page, primary: u16, reference: u16, height: u16) {
+fn put_opening(page: &mut Page, primary: u16, reference: u16, height: u16)
+    ensures { page.new.out.ghost_name ≡ page.old.out.ghost_name }
+{
     put_head(
         page,
         height,
@@ -30,7 +32,9 @@ fn put_opening(page: &mut Page, primary: u16, reference: u16, height: u16) {
 }
 
 // The two parcels, above the pale map.
-fn put_two(page: &mut Page, primary: Shape, reference: Shape) {
+fn put_two(page: &mut Page, primary: Shape, reference: Shape)
+    ensures { page.new.out.ghost_name ≡ page.old.out.ghost_name }
+{
     put_outline(
         page,
         reference,
@@ -44,7 +48,9 @@ fn put_two(page: &mut Page, primary: Shape, reference: Shape) {
 }
 
 // The labels of the two parcels.
-fn put_labels(page: &mut Page, primary: Shape, reference: Shape) {
+fn put_labels(page: &mut Page, primary: Shape, reference: Shape)
+    ensures { page.new.out.ghost_name ≡ page.old.out.ghost_name }
+{
     start_labels(page);
     put_label(page, reference);
     put_label(page, primary);
@@ -52,7 +58,9 @@ fn put_labels(page: &mut Page, primary: Shape, reference: Shape) {
 }
 
 // The map, pale, with the tinted tiles over it.
-fn put_pale(page: &mut Page, card: &GoodCard, v: View, grid: Grid, set: u16) {
+fn put_pale(page: &mut Page, card: &GoodCard, v: View, grid: Grid, set: u16)
+    ensures { page.new.out.ghost_name ≡ page.old.out.ghost_name }
+{
     put_filled(
         page,
         card,
@@ -64,7 +72,9 @@ fn put_pale(page: &mut Page, card: &GoodCard, v: View, grid: Grid, set: u16) {
 }
 
 // The whole picture of the primary p and the reference q, whose pair answer is a.
-fn put_scene(page: &mut Page, card: &GoodCard, v: View, p: Field, q: Field, a: Answer) {
+fn put_scene(page: &mut Page, card: &GoodCard, v: View, p: Field, q: Field, a: Answer)
+    ensures { page.new.out.ghost_name ≡ page.old.out.ghost_name }
+{
     let b = extent_of(q);
     let grid = Grid::new(v, b);
     let primary = shape_of(v, p);
@@ -83,6 +93,7 @@ fn put_scene(page: &mut Page, card: &GoodCard, v: View, p: Field, q: Field, a: A
 // Parcel j seen from parcel k.
 pub fn put_sight(page: &mut Page, card: &GoodCard, j: usize, k: usize)
     requires { (j < parcel_count card.now.bytes.now) × (k < parcel_count card.now.bytes.now) }
+    ensures { page.new.out.ghost_name ≡ page.old.out.ghost_name }
 {
     let v = view_of(extent_of_card(card));
     let p = field_at(card, j);

@@ -1,6 +1,8 @@
 // An SVG picture, written onto a page. Lengths are tenths of a pixel.
 #![tactic(auto)]
 
+ghost use Rattle.std.specs.Prelude.{◌≡◌};
+
 use std::fmt::Display;
 
 mod page;
@@ -8,7 +10,9 @@ mod page;
 pub use page::Page;
 
 // The start of a picture of this height, 960 pixels wide: its title and description, and a white ground, so that it can be read on any page.
-pub fn put_head<D: Display + Drop>(page: &mut Page, height: u16, title: D, description: &str) {
+pub fn put_head<D: Display + Drop>(page: &mut Page, height: u16, title: D, description: &str)
+    ensures { page.new.out.ghost_name ≡ page.old.out.ghost_name }
+{
     let pixels = height / 10;
     write!(
         page,
@@ -20,6 +24,8 @@ pub fn put_head<D: Display + Drop>(page: &mut Page, height: u16, title: D, descr
     );
 }
 
-pub fn put_foot(page: &mut Page) {
+pub fn put_foot(page: &mut Page)
+    ensures { page.new.out.ghost_name ≡ page.old.out.ghost_name }
+{
     page.text(b"</svg>\n");
 }

@@ -43,8 +43,16 @@ impl<'a> Page<'a> {
     }
 
     // What `write!` calls. A page takes every text, so there is no error to hand on.
-    pub fn write_fmt<D: fmt::Display + Drop>(&mut self, value: D) {
-        let _ = fmt::Write::write_fmt(self, value);
+    // The text is written through a page of its own, so that this one stays over its buffer whatever the value's own writing does.
+    pub fn write_fmt<D: fmt::Display + Drop>(&mut self, value: D)
+        ensures { self.new.out.ghost_name ≡ self.old.out.ghost_name }
+    {
+        let mut rest = Page {
+            out: self.out,
+            at: self.at,
+        };
+        let _ = fmt::Write::write_fmt(&mut rest, value);
+        self.at = rest.at;
     }
 }
 
