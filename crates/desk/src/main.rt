@@ -55,7 +55,7 @@ fn answer(to: &impl Print, input: &Input, page: &mut Page, kept: &mut Kept) {
 }
 
 fn is_passed_over(line: &[u8]) -> bool {
-    line.starts_with(b"#") || words::is_over(line, 0)
+    line.is_empty() || line[0] == b'#' || words::is_over(line, 0)
 }
 
 fn ask(mut line: Rest, page: &mut Page, kept: &mut Kept) -> Option<Reply> {

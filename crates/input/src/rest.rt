@@ -1,4 +1,5 @@
-// What is left of a line, from a place on. Each function takes what comes next there, or answers that something else does.
+// What is left of a line, from a place on. Each function takes what comes next there, or answers that something else does. The short ones are
+// part of whoever calls them, so that the place stands in a register.
 use crate::Request;
 use region::Outline;
 use words::Word;
@@ -57,17 +58,20 @@ impl<'a> Rest<'a> {
         words::is_over(self.line, self.from)
     }
 
+    #[inline(always)]
     pub fn end(&self) -> Option<()> {
         self.is_over().then_some(())
     }
 
     // A request by its name.
+    #[inline(always)]
     pub fn request(&mut self) -> Option<Request> {
         let Word { value, next } = words::read_name(self.line, self.from);
         self.from = next;
         Request::named(value)
     }
 
+    #[inline(always)]
     pub fn number<T: Number>(&mut self) -> Option<T> {
         let Word { value, next } = T::read(self.line, self.from)?;
         self.from = next;
@@ -75,6 +79,7 @@ impl<'a> Rest<'a> {
     }
 
     // The last number of the line.
+    #[inline(always)]
     pub fn last<T: Number>(&mut self) -> Option<T> {
         let Word { value, next } = T::read_last(self.line, self.from)?;
         self.from = next;
