@@ -5,7 +5,7 @@ pub mod names;
 mod request;
 mod rest;
 
-ghost use Rattle.std.specs.Prelude.{◌≤◌};
+ghost use Rattle.std.specs.Prelude.{◌+◌, ◌≤◌};
 ghost use Rattle.input.specs.declared.TheConstants.{CHUNK, LINE};
 
 pub use request::Request;
@@ -20,7 +20,8 @@ const LINE: usize = 65536;
 
 const CHUNK: usize = 65536;
 
-// Where the reading stands: the bytes of the chunk from `from` to `to` are still to be taken; `held` bytes of the line have been.
+// Where the reading stands: the bytes of the chunk from `from` to `to` are still to be taken. Of a line that began in an earlier chunk, or whose
+// end has not come, `held` bytes are kept; one that lies in the chunk whole is not copied, and stands there from `start` on, `size` bytes.
 #[derive(Drop)]
 pub struct Input {
     chunk: [u8; CHUNK],
@@ -28,9 +29,12 @@ pub struct Input {
     to: usize,
     line: [u8; LINE],
     held: usize,
+    start: usize,
+    size: usize,
     ghost taken: { from ≤ to },
     ghost in_chunk: { to ≤ CHUNK },
     ghost in_line: { held ≤ LINE },
+    ghost whole_in_chunk: { start + size ≤ CHUNK },
 }
 
 impl Input {
@@ -41,6 +45,8 @@ impl Input {
             to: 0,
             line: [0; LINE],
             held: 0,
+            start: 0,
+            size: 0,
         }
     }
 
@@ -50,9 +56,15 @@ impl Input {
         let rest = &chunk[self.from..self.to];
         let feed = rest.iter().position(|byte| *byte == LINE_FEED);
         let taken = feed.unwrap_or(rest.len());
-        self.held = keep(&mut self.line, self.held, &rest[..taken]);
+        let is_line = feed.is_some();
+        if is_line && self.held == 0 {
+            self.start = self.from;
+            self.size = taken;
+        } else {
+            self.held = keep(&mut self.line, self.held, &rest[..taken]);
+        }
         self.from = self.to.min(self.from + taken + 1);
-        feed.is_some()
+        is_line
     }
 
     // Reads the next chunk, and answers whether there was one: the input is over where nothing comes, as after a read that failed.
@@ -65,15 +77,21 @@ impl Input {
 
     // The bytes of the line that were taken, unless it is too long.
     pub fn line(&self) -> Option<&[u8]> {
-        if LONGEST_LINE < self.held {
+        let line = if self.held == 0 {
+            &self.chunk[self.start..self.start + self.size]
+        } else {
+            &self.line[..self.held]
+        };
+        if LONGEST_LINE < line.len() {
             return None;
         }
-        Some(&self.line[..self.held])
+        Some(line)
     }
 
     // A new line begins.
     pub fn next_line(&mut self) {
         self.held = 0;
+        self.size = 0;
     }
 }
 
