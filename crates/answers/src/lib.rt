@@ -104,7 +104,7 @@ impl Page {
         self.put_natural(number);
     }
 
-    // Each number after a space. The place stands in a variable of the loop, which takes a quarter less time than to keep it in the page.
+    // Each number after a space. The place stands in a variable of the loop: a loop that keeps it in the page waits for it at each turn.
     pub fn put_numbers<T: Copy + Into<u64>>(&mut self, numbers: &[T]) {
         let mut at = self.at;
         for number in numbers {
