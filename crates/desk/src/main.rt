@@ -69,7 +69,12 @@ fn ask(mut line: Rest, page: &mut Page, kept: &mut Kept) -> Option<Reply> {
         Request::Directions => reports::directions_reply(line),
         Request::Host => reports::host_reply(line, page),
         Request::Tiles => parcels::tiles_reply(line),
-        Request::Lend => kept::lend_reply(line, kept),
+        Request::Lend => {
+            let mut lengths = kept.lengths();
+            let reply = kept::lend_reply(line, &mut lengths);
+            kept.lend(lengths);
+            reply
+        }
         Request::Poke => lists::poke_reply(line, kept.whole_lists()),
         Request::Sheet => lists::sheet_reply(line, kept.shared_whole_lists(), page),
         Request::Put => parcels::put_reply(line, kept.lists()),

@@ -75,7 +75,7 @@ impl Input {
         count != 0
     }
 
-    // The bytes of the line that were taken, unless it is too long.
+    // The bytes of the line that was taken, unless it is too long. Where it was whole they stand until the next line begins or is read.
     pub fn line(&self) -> Option<&[u8]> {
         let line = if self.held == 0 {
             &self.chunk[self.start..self.start + self.size]

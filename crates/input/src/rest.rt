@@ -1,5 +1,8 @@
 // What is left of a line, from a place on. Each function takes what comes next there, or answers that something else does. The short ones are
 // part of whoever calls them, so that the place stands in a register.
+ghost use Rattle.std.specs.Prelude.{◌≡◌};
+ghost use Rattle.words.specs.Numbers.{natural_at, last_of};
+
 use crate::Request;
 use region::Outline;
 use words::Word;
@@ -30,7 +33,9 @@ impl Number for u16 {
         words::read_natural(line, from)
     }
 
-    fn read_last(line: &[u8], from: usize) -> Option<Word<u16>> {
+    fn read_last(line: &[u8], from: usize) -> Option<Word<u16>>
+        ensures { result ≡ last_of line.now (natural_at line.now from) }
+    {
         words::read_last_natural(line, from)
     }
 }

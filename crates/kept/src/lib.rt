@@ -1,7 +1,7 @@
 // The sheet that the desk keeps, and the request on how much of each of its lists the calls are lent: lend.
 #![tactic(auto)]
 
-ghost use Rattle.std.specs.Prelude.{◌≡◌, ◌≤◌, take};
+ghost use Rattle.std.specs.Prelude.{◌≡◌, ◌≤◌, [], ◌∷◌, min, slice_index, take};
 ghost use Rattle.kept.specs.declared.TheConstants.{COORDINATES_KEPT, RECORDS_KEPT, RELATIONS_KEPT};
 
 use answers::Reply;
@@ -65,8 +65,36 @@ impl Kept {
         }
     }
 
+    // How much of each list is lent.
+    pub fn lengths(&self) -> [usize; 3]
+        ensures { result ≡ self.now.lent.coordinates ∷ self.now.lent.records ∷ self.now.lent.relations ∷ [] }
+    {
+        [
+            self.lent.coordinates,
+            self.lent.records,
+            self.lent.relations,
+        ]
+    }
+
+    // Lends so much of each list, or all of it.
+    pub fn lend(&mut self, lengths: [usize; 3])
+        ensures coordinates { self.new.lent.coordinates ≡ min (slice_index lengths 0) COORDINATES_KEPT }
+        ensures records { self.new.lent.records ≡ min (slice_index lengths 1) RECORDS_KEPT }
+        ensures relations { self.new.lent.relations ≡ min (slice_index lengths 2) RELATIONS_KEPT }
+    {
+        self.lent = Lent {
+            coordinates: lengths[0].min(COORDINATES_KEPT),
+            records: lengths[1].min(RECORDS_KEPT),
+            relations: lengths[2].min(RELATIONS_KEPT),
+        };
+    }
+
     // All that is kept of each list, whatever is lent.
-    pub fn whole_lists(&mut self) -> Lists<'_> {
+    pub fn whole_lists(&mut self) -> Lists<'_>
+        ensures coordinates { result.coordinates.now ≡ take COORDINATES_KEPT self.old.coordinates }
+        ensures records { result.records.now ≡ take RECORDS_KEPT self.old.records }
+        ensures relations { result.relations.now ≡ take RELATIONS_KEPT self.old.relations }
+    {
         Lists {
             coordinates: front(&mut self.coordinates, COORDINATES_KEPT),
             records: front(&mut self.records, RECORDS_KEPT),
@@ -83,7 +111,11 @@ impl Kept {
         }
     }
 
-    pub fn shared_whole_lists(&self) -> SharedLists<'_> {
+    pub fn shared_whole_lists(&self) -> SharedLists<'_>
+        ensures coordinates { result.coordinates.now ≡ self.now.coordinates }
+        ensures records { result.records.now ≡ self.now.records }
+        ensures relations { result.relations.now ≡ self.now.relations }
+    {
         SharedLists {
             coordinates: &self.coordinates[..COORDINATES_KEPT],
             records: &self.records[..RECORDS_KEPT],
@@ -105,23 +137,21 @@ impl Kept {
     }
 }
 
-pub fn lend_reply(mut line: Rest, kept: &mut Kept) -> Option<Reply> {
+// The three lengths to be lent, where no list is longer than what is kept of it.
+pub fn lend_reply(mut line: Rest, lent: &mut [usize; 3]) -> Option<Reply> {
     let coordinates = usize::from(line.number::<u16>()?);
     let records = usize::from(line.number::<u16>()?);
     let relations = usize::from(line.last::<u16>()?);
     if COORDINATES_KEPT < coordinates || RECORDS_KEPT < records || RELATIONS_KEPT < relations {
         return None;
     }
-    kept.lent = Lent {
-        coordinates,
-        records,
-        relations,
-    };
+    *lent = [coordinates, records, relations];
     Some(Reply::Ok)
 }
 
 fn front<T, const N: usize>(list: &mut [T; N], count: usize) -> &mut [T]
     requires { count ≤ N }
+    ensures { result.now ≡ take count list.old }
 {
     &mut list[..count]
 }
