@@ -58,7 +58,7 @@ fn is_passed_over(line: &[u8]) -> bool {
     line.is_empty() || line[0] == b'#' || words::is_over(line, 0)
 }
 
-// Part of its one caller: as a function of its own it takes a fifth more time for a short request.
+// Part of its one caller: as a function of its own a short request takes a fifth more instructions.
 #[inline(always)]
 fn ask(mut line: Rest, page: &mut Page, kept: &mut Kept) -> Option<Reply> {
     let request = line.request()?;
