@@ -4,8 +4,10 @@
 pub mod names;
 mod request;
 mod rest;
+#[cfg(test)]
+mod tests;
 
-ghost use Rattle.std.specs.Prelude.{◌+◌, ◌≤◌};
+ghost use Rattle.std.specs.Prelude.{◌≡◌, ◌+◌, ◌≤◌};
 ghost use Rattle.input.specs.declared.TheConstants.{CHUNK, LINE};
 
 pub use request::Request;
@@ -20,8 +22,8 @@ const LINE: usize = 65536;
 
 const CHUNK: usize = 65536;
 
-// Where the reading stands: the bytes of the chunk from `from` to `to` are still to be taken. Of a line that began in an earlier chunk, or whose
-// end has not come, `held` bytes are kept; one that lies in the chunk whole is not copied, and stands there from `start` on, `size` bytes.
+// Where the reading stands: the bytes of the chunk from `from` to `to` are still to be taken; `held` bytes of the line have been. One that came
+// whole is not copied: it stands in the chunk from `start` on, until more is taken or read. For one that is copied `start` is 0.
 #[derive(Drop)]
 pub struct Input {
     chunk: [u8; CHUNK],
@@ -30,11 +32,11 @@ pub struct Input {
     line: [u8; LINE],
     held: usize,
     start: usize,
-    size: usize,
+    is_in_chunk: bool,
     ghost taken: { from ≤ to },
     ghost in_chunk: { to ≤ CHUNK },
     ghost in_line: { held ≤ LINE },
-    ghost whole_in_chunk: { start + size ≤ CHUNK },
+    ghost whole_in_chunk: { start + held ≤ CHUNK },
 }
 
 impl Input {
@@ -46,7 +48,7 @@ impl Input {
             line: [0; LINE],
             held: 0,
             start: 0,
-            size: 0,
+            is_in_chunk: false,
         }
     }
 
@@ -59,39 +61,62 @@ impl Input {
         let is_line = feed.is_some();
         if is_line && self.held == 0 {
             self.start = self.from;
-            self.size = taken;
+            self.held = taken;
+            self.is_in_chunk = true;
         } else {
-            self.held = keep(&mut self.line, self.held, &rest[..taken]);
+            self.keep_more(taken);
         }
         self.from = self.to.min(self.from + taken + 1);
         is_line
     }
 
+    // So many bytes more of the line, as copies of what is still to be taken. No part of its caller, which most lines never bring here.
+    #[inline(never)]
+    fn keep_more(&mut self, count: usize)
+        requires { self.old.from + count ≤ CHUNK }
+    {
+        let from = self.from;
+        self.copy_line();
+        let chunk: &[u8] = &self.chunk;
+        self.held = keep(&mut self.line, self.held, &chunk[from..from + count]);
+    }
+
+    // Copies of the line what stands in the chunk, so that more can follow it.
+    fn copy_line(&mut self)
+        ensures { self.new.start ≡ 0 }
+    {
+        if self.is_in_chunk {
+            let chunk: &[u8] = &self.chunk;
+            let line = &chunk[self.start..self.start + self.held];
+            self.held = keep(&mut self.line, 0, line);
+            self.is_in_chunk = false;
+        }
+        self.start = 0;
+    }
+
     // Reads the next chunk, and answers whether there was one: the input is over where nothing comes, as after a read that failed.
     pub fn read_on(&mut self, from: &mut impl Read) -> bool {
+        self.copy_line();
         let count = from.read(&mut self.chunk).unwrap_or(0);
         self.from = 0;
         self.to = count;
         count != 0
     }
 
-    // The bytes of the line that was taken, unless it is too long. Where it was whole they stand until the next line begins or is read.
+    // The bytes of the line that were taken, unless it is too long.
     pub fn line(&self) -> Option<&[u8]> {
-        let line = if self.held == 0 {
-            &self.chunk[self.start..self.start + self.size]
-        } else {
-            &self.line[..self.held]
-        };
-        if LONGEST_LINE < line.len() {
+        if LONGEST_LINE < self.held {
             return None;
         }
-        Some(line)
+        if self.is_in_chunk {
+            return Some(&self.chunk[self.start..self.start + self.held]);
+        }
+        Some(&self.line[..self.held])
     }
 
     // A new line begins.
     pub fn next_line(&mut self) {
         self.held = 0;
-        self.size = 0;
     }
 }
 
