@@ -70,7 +70,7 @@ impl Input {
         is_line
     }
 
-    // So many bytes more of the line, as copies of what is still to be taken. No part of its caller, which most lines never bring here.
+    // So many bytes more of the line, as copies of what is still to be taken. Not part of its caller, as most lines do not come here.
     #[inline(never)]
     fn keep_more(&mut self, count: usize)
         requires { self.old.from + count ≤ CHUNK }
